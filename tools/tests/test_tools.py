@@ -236,6 +236,22 @@ class Definitions(unittest.TestCase):
         shown = subprocess.run([TOOLS / "definitions"], capture_output=True, text=True, check=True).stdout
         self.assertTrue((ROOT / "docs/DEFINITIONS.md").read_text().endswith(shown.rstrip("\n") + "\n"))
 
+    def behind(self, file: str, name: str) -> list[str]:
+        words = [TOOLS / "definitions", "--behind", ROOT / "crates" / file, name]
+        return subprocess.run(words, capture_output=True, text=True, check=True).stdout.splitlines()
+
+    def test_what_is_behind_a_function_is_counted(self) -> None:
+        # (`mark_in` alone, a head and two equations)
+        self.assertEqual(
+            self.behind("pt_frame/src/marks.rt", "innermost"), ["innermost: 1 definitions, 3 lines", "  pt_frame: 1, 3"]
+        )
+
+    def test_a_run_over_any_host_stands_on_no_rule_of_the_tree_in_memory(self) -> None:
+        drive, run = self.behind("pt_fs/src/run.rt", "drive"), self.behind("pt_run/src/program.rt", "run")
+        crates = [[line.strip().split(":")[0] for line in shown[1:]] for shown in (drive, run)]
+        self.assertLess(set(crates[0]), set(crates[1]))
+        self.assertEqual(("pt_rules" in crates[0], "pt_rules" in crates[1]), (False, True))
+
 
 class Trust(unittest.TestCase):
     def test_what_is_believed_rests_on_what_is_believed(self) -> None:

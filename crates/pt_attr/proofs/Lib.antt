@@ -1,5 +1,4 @@
-pub mod Making
-pub mod Makings
+pub mod Keeping
+pub mod Labelling
 pub mod Replying
 pub mod Walking
-pub mod Answering

@@ -1,61 +1,58 @@
--- What passes through each step of a request passes through those of names and attributes too, so it holds of every
--- request.
-use Rattle.std.proofs.Common.{◌≡◌, ℕ, Bool, true, false, if◌then◌else◌, List, Option, Some, None, refl}
+-- What passes through each step of a request passes through those of names, attributes and contents too.
+use Rattle.std.proofs.Common.{◌≡◌, ℕ, Bool, true, false, List, Option, Some, None, Result, refl}
 use Rattle.std.specs.Int.{w64, cast_signed}
+use Rattle.std.specs.List.{list_any}
 use Rattle.std.specs.Prelude.{◌||◌}
 use Rattle.pt_host.specs.Call.{Call}
-use Rattle.pt_host.specs.Errno.{eacces, ebadf, einval, eperm}
+use Rattle.pt_host.specs.Errno.{eacces, einval, eopnotsupp, eperm}
+use Rattle.pt_host.specs.declared.ids.Errno.{Errno}
 use Rattle.pt_host.specs.declared.ids.Fd.{Fd}
 use Rattle.pt_host.specs.declared.stat.FsStat.{FsStat}
 use Rattle.pt_host.specs.declared.op.KeptHostOp.TheVariants as call
+use Rattle.pt_host.specs.declared.reply.HostReply.TheVariants as host
 use Rattle.pt_host.specs.declared.seat.HostSeat.{HostSeat}
 use Rattle.pt_creds.specs.Identity.{Credentials}
+use Rattle.pt_iface.specs.declared.answer.Answer.{Answer}
 use Rattle.pt_iface.specs.declared.answer.Answer.TheVariants as answer
 use Rattle.pt_iface.specs.declared.flags.SetattrValid.{SetattrValid}
 use Rattle.pt_iface.specs.declared.request.Context.{Context}
-use Rattle.pt_iface.specs.declared.request.Request.{Request}
-use Rattle.pt_iface.specs.declared.request.Request.TheVariants as request
+use Rattle.pt_iface.specs.declared.request.SecContext.{SecContext}
 use Rattle.pt_iface.specs.declared.request.SetattrIn.{SetattrIn}
-use Rattle.pt_frame.specs.Deed.{Calls, Deed}
+use Rattle.pt_frame.specs.Deed.{Calls, Deed, lacks_memory}
 use Rattle.pt_frame.specs.Tended.{is_of_seat}
-use Rattle.pt_frame.specs.Tree.{RequestTree, Gives, Bares}
+use Rattle.pt_frame.specs.Replies.{bytes_of}
+use Rattle.pt_frame.specs.Tree.{RequestTree, Gives, Bares, Shuts, on}
 use Rattle.pt_frame.specs.declared.act.ActReply.{ActReply}
+use Rattle.pt_frame.specs.declared.act.ActReply.TheVariants.{Host, NoCopy}
+use Rattle.pt_req.specs.Asker.{asker_of}
+use Rattle.pt_req.specs.Attributes.{is_blocked}
 use Rattle.pt_req.specs.Capability.{drops_fsetid, without_fsetid}
-use Rattle.pt_req.specs.Entries.{attr_of, can_open, is_bad_name, is_bad_offset}
+use Rattle.pt_req.specs.Creating.{undone}
+use Rattle.pt_req.specs.Entries.{attr_of}
 use Rattle.pt_req.specs.Options.{o_nofollow}
-use Rattle.pt_req.specs.Steps.{Resolved, on_bytes, on_set}
+use Rattle.pt_req.specs.Parts.{by_path}
+use Rattle.pt_req.specs.Steps.{begin, ok_in, or_refused, refused_in, set_xattr}
+use Rattle.pt_req.specs.declared.begun.BegunSession.{BegunSession}
 use Rattle.pt_req.specs.declared.plan.Plan.{Plan}
-use Rattle.pt_req.proofs.Replying.{if_bytes, if_set}
-use Rattle.pt_req.proofs.Walking.{Walk, is_making, begins, checks, files, looks_up, refuses_so, resolves, stats}
-use Rattle.pt_req.proofs.Walking.{checked, drops_if, opens_form, opens_inode, pins, unserves}
-use Rattle.pt_req.proofs.Walking.{InScope, OfDeed, OfOpening, Scoped}
-use Rattle.pt_req.proofs.Walking.{each_request as each_there}
-use Rattle.pt_req.proofs.Walking.{OfAsker, OfMakings as OfMakingsThere, of_any as of_any_there}
-use Rattle.pt_req.proofs.Walking.{OfScopes as OfScopesThere, of_any_scopes as of_any_scopes_there}
+use Rattle.pt_req.specs.declared.replies.Resolved.{Resolved}
+use Rattle.pt_req.proofs.Replying.{if_bytes, if_refused, if_set}
+use Rattle.pt_req.proofs.Walking.{Walk, is_making, begins, checks, files, looks_up, refuses_so, resolves, stats, names}
+use Rattle.pt_req.proofs.Walking.{places, drops_if, opens_row, opens_inode, pins, makes, undoes}
+use Rattle.pt_req.proofs.Walking.{InScope, OfAsker, OfDeed, OfOpening, Scoped}
 use Rattle.pt_attr.specs.Access.{is_granted}
-use Rattle.pt_attr.specs.Contents.{appends, fsync}
-use Rattle.pt_attr.specs.Making.{object_asked}
-use Rattle.pt_attr.specs.Requests.{file_by, files_by, rmdir, tree_of, unlink}
-use Rattle.pt_attr.specs.Setting.{atime_set, do_if, file_set, is_missized, mtime_set, opens_anew, own_as, set_owner}
-use Rattle.pt_attr.specs.Setting.{setting_flags, sets_atime, sets_gid, sets_mode, sets_mtime, sets_size, sets_uid}
-use Rattle.pt_attr.specs.Setting.{kills_suidgid, set_size, target_of}
-use Rattle.pt_attr.specs.Steps.{count_of, do_call, on_count, on_fs_stat, read_link, stat_fs}
-use Rattle.pt_attr.specs.declared.requests.making.Made.TheVariants as made
-use Rattle.pt_attr.proofs.Makings.{makes_named}
-use Rattle.pt_attr.proofs.Replying.{if_count, if_fs_stat}
-
--- it holds of each making of a request
-abbrev pub OfMakings : (Credentials → Type 0) → Plan → Context → Request → Type 0
-OfMakings M plan who (request.Mkdir parent name mode umask ext) = OfAsker M plan who ext.sup_gid
-OfMakings M plan who (request.Mknod parent name mode rdev umask ext) = OfAsker M plan who ext.sup_gid
-OfMakings M plan who (request.Symlink target parent name ext) = OfAsker M plan who ext.sup_gid
-OfMakings M plan who asked = OfMakingsThere M plan who asked
-
-pub of_any : (plan : Plan) (who : Context) (asked : Request) → OfMakings (λ creds. Unit {0}) plan who asked
-of_any plan who (request.Mkdir parent name mode umask ext) = λ session creds e. tt
-of_any plan who (request.Mknod parent name mode rdev umask ext) = λ session creds e. tt
-of_any plan who (request.Symlink target parent name ext) = λ session creds e. tt
-of_any plan who asked = of_any_there plan who asked
+use Rattle.pt_attr.specs.Contents.{appends, copyfilerange, fallocate, flush, fsync, lseek, syncfs, write}
+use Rattle.pt_attr.specs.Making.{ObjectAsked, is_nul, kept_at, label_at, labelled_at, make_object, mkdir, mknod}
+use Rattle.pt_attr.specs.Making.{set_opened, symlink, targeted}
+use Rattle.pt_attr.specs.Parts.{file_by, files_by, tell_attr, two_files}
+use Rattle.pt_attr.specs.Requests.{access, allowed, getattr, link, readlink, rename, rmdir, statfs, unlink}
+use Rattle.pt_attr.specs.Setting.{atime_set, cut_if, do_if, file_set, is_missized, kills_suidgid, mtime_set, opens_anew}
+use Rattle.pt_attr.specs.Setting.{own_as, own_if, set_owner, set_size, setattr, setting_flags, sets_atime, sets_gid}
+use Rattle.pt_attr.specs.Setting.{sets_mode}
+use Rattle.pt_attr.specs.Setting.{sets_mtime, sets_size, sets_uid, sized, target_as, target_of}
+use Rattle.pt_attr.specs.Steps.{count_in, count_of, do_call, fs_stat_in, opened_in, read_link, stat_fs}
+use Rattle.pt_attr.specs.declared.parts.TwoFiles.{TwoFiles}
+use Rattle.pt_attr.specs.declared.parts.setting.Target.{Target}
+use Rattle.pt_attr.proofs.Replying.{if_count, if_fs_stat, if_opened}
 
 abbrev pub OfWrite : (Bool → Deed → Type 0) → Bool → Type 0
 OfWrite D dropped =
@@ -63,22 +60,6 @@ OfWrite D dropped =
 
 abbrev pub OfCut : (Bool → Deed → Type 0) → Bool → Type 0
 OfCut D dropped = (fd : Fd) (size : ℕ) → D dropped (Calls (call.Truncate fd size))
-
--- and of each of its calls by which set-id bits may go
-abbrev pub OfScopes : (Bool → Deed → Type 0) → Plan → HostSeat → Request → Type 0
-OfScopes D plan seat (request.Write inode handle offset bytes delayed kill flags) =
-    OfWrite D (drops_fsetid plan seat kill)
-OfScopes D plan seat (request.SetAttr inode handle valid attr) =
-    OfCut D (drops_fsetid plan seat (kills_suidgid valid)) × OfOpening D false
-OfScopes D plan seat (request.SyncFs inode) = OfOpening D false
-OfScopes D plan seat asked = OfScopesThere D plan seat asked
-
-pub of_any_scopes : (plan : Plan) (seat : HostSeat) (asked : Request) →
-    OfScopes (λ dropped asked. Unit {0}) plan seat asked
-of_any_scopes plan seat (request.Write inode handle offset bytes delayed kill flags) = λ fd at bytes append. tt
-of_any_scopes plan seat (request.SetAttr inode handle valid attr) = ((λ fd size. tt), (λ fd how. tt))
-of_any_scopes plan seat (request.SyncFs inode) = λ fd how. tt
-of_any_scopes plan seat asked = of_any_scopes_there plan seat asked
 
 -- under a scope bytes are written, or a size is set, and it ends
 module _ (D : Bool → Deed → Type 0) (dropped : Bool) (Q : RequestTree → Type 0) where
@@ -114,22 +95,22 @@ module _
   where
     reads_link : (fd : Fd) (next : List ℕ → RequestTree) → ((target : List ℕ) → Q (next target)) →
         Q (read_link fd next)
-    reads_link fd next so = w.asks (Calls (call.ReadLink fd)) (on_bytes next) refl refl refl
+    reads_link fd next so = w.asks (Calls (call.ReadLink fd)) (on bytes_of next) refl refl refl
         (if_bytes R next w.refuses (λ target. w.had _ _ (so target)))
 
     stats_fs : (fd : Fd) (next : FsStat → RequestTree) → ((told : FsStat) → Q (next told)) → Q (stat_fs fd next)
-    stats_fs fd next so = w.asks (Calls (call.StatFs fd)) (on_fs_stat next) refl refl refl
+    stats_fs fd next so = w.asks (Calls (call.StatFs fd)) (on fs_stat_in next) refl refl refl
         (if_fs_stat R next w.refuses (λ told. w.had _ _ (so told)))
 
     pub calls : (asked : Call) (next : RequestTree) → is_of_seat (Calls asked) ≡ false →
         is_making (Calls asked) ≡ false → OfDeed D false (Calls asked) → Q next → Q (do_call asked next)
-    calls asked next own none may so = w.asks (Calls asked) (on_set next) own none may
+    calls asked next own none may so = w.asks (Calls asked) (on ok_in (λ done. next)) own none may
         (if_set R next w.refuses (λ told. w.had _ _ so))
 
     counts : (asked : Call) (next : ℕ → RequestTree) → is_of_seat (Calls asked) ≡ false →
         is_making (Calls asked) ≡ false → OfDeed D false (Calls asked) → ((count : ℕ) → Q (next count)) →
         Q (count_of asked next)
-    counts asked next own none may so = w.asks (Calls asked) (on_count next) own none may
+    counts asked next own none may so = w.asks (Calls asked) (on count_in next) own none may
         (if_count R next w.refuses (λ count. w.had _ _ (so count)))
 
     counts_without : (plan : Plan) (kill : Bool) (asked : Call) (next : ℕ → RequestTree) →
@@ -142,165 +123,270 @@ module _
     pub one_file : (number : ℕ) (next : Fd → RequestTree) → ((fd : Fd) → Q (next fd)) → Q (file_by number next)
     one_file number next so = resolves w number _ (λ row. files w row.form next so)
 
-    both_files : (first second : ℕ) (next : Fd → Fd → RequestTree) → ((from to : Fd) → Q (next from to)) →
+    pub both_files : (first second : ℕ) (next : TwoFiles → RequestTree) → ((files : TwoFiles) → Q (next files)) →
         Q (files_by first second next)
+    unfolding files_by
     both_files first second next so =
         resolves w first _ (λ one.
         resolves w second _ (λ other.
         files w one.form _ (λ from.
-        files w other.form _ (λ to. so from to))))
+        files w other.form _ (λ to. so (two_files from to)))))
+
+    -- a making
+    module _
+        (undoing : Call)
+        (own : is_of_seat (Calls undoing) ≡ false)
+        (none : is_making (Calls undoing) ≡ false)
+        (may : OfDeed D false (Calls undoing))
+        (next : RequestTree)
+      where
+        abbrev shut : Option Answer → RequestTree
+        shut refused = Shuts false (or_refused (undone undoing) next refused)
+
+        shut_undone : (errno : Errno) → Q (shut (Some (answer.Refused errno)))
+        shut_undone errno = w.shuts false _ (undoes w undoing errno own none may)
+
+        shut_out : (told : ActReply) → lacks_memory told ≡ true → R told (shut (Some answer.NoMemory))
+        shut_out told lacks = w.shuts_after told false _ (w.ran_out told (Calls undoing) lacks own none may)
+
+        sets : (fd : Fd) (attribute value : List ℕ) → Q next → Q (set_xattr fd true attribute value 0 shut)
+        sets fd attribute value so =
+            w.asks (Calls (call.SetXattr fd true attribute value 0)) (on refused_in shut) refl refl refl
+            (if_refused R shut w.refuses (λ told. w.had _ _ (w.shuts false _ so))
+            (λ errno. w.had _ _ (shut_undone errno)) (λ errno. w.had _ _ (shut_undone errno))
+            (shut_out (Host host.NoMemory) refl) (shut_out NoCopy refl))
+
+        keeps_at : (dir : Fd) (name attribute value : List ℕ) → Q next →
+            Q (kept_at dir name undoing attribute value next)
+        keeps_at dir name attribute value so =
+            w.brackets _ (
+            w.asks (Calls (call.OpenAt dir name by_path 0)) (on opened_in set_on) refl refl refl
+            (if_opened R set_on w.refuses (λ fd. w.had _ _ (sets fd attribute value so))
+            (λ errno. w.had _ _ (shut_undone errno)) (λ errno. w.had _ _ (shut_undone errno))
+            (shut_out (Host host.NoMemory) refl) (shut_out NoCopy refl)))
+          where
+            set_on : Result Fd Answer → RequestTree
+            set_on opened = set_opened attribute value opened shut
+
+        sets_label : (session : BegunSession) (dir : Fd) (name : List ℕ) (label : SecContext) → Q next →
+            Q (label_at session dir name undoing label next)
+        unfolding label_at
+        sets_label session dir name label so =
+            checks w (is_blocked session.agreed label.name) _ _ (undoes w undoing eopnotsupp own none may)
+            (keeps_at dir name label.name label.value so)
+
+        labels_at : (session : BegunSession) (dir : Fd) (name : List ℕ) (brought : Option SecContext) → Q next →
+            Q (labelled_at session dir name undoing brought next)
+        labels_at session dir name None so = so
+        labels_at session dir name (Some label) so = sets_label session dir name label so
+
+    makes_object : (plan : Plan) (session : BegunSession) (asked : ObjectAsked) (dir : Fd) (making undoing : Call) →
+        is_making (Calls making) ≡ true → is_of_seat (Calls undoing) ≡ false → is_making (Calls undoing) ≡ false →
+        OfDeed D false (Calls undoing) →
+        ((creds : Credentials) → asker_of plan session asked.who asked.ext.sup_gid ≡ Some creds → M creds) →
+        Q (make_object plan seat session asked dir making undoing)
+    unfolding make_object
+    makes_object plan session asked dir making undoing is own none may asker =
+        makes w (asker_of plan session asked.who asked.ext.sup_gid) making _ is asker
+        (if_set R _ w.refuses (λ told. w.had _ _ (
+        labels_at undoing own none may _ session dir asked.name asked.ext.secctx (
+        looks_up w plan session asked.parent asked.name _ (λ looked.
+        w.gives (answer.Entry looked.entry) (refl, λ out. out))))))
+
+    pub makes_dir : (plan : Plan) (asked : ObjectAsked) (mode : ℕ) → OfAsker M plan asked.who asked.ext.sup_gid →
+        Q (begin (mkdir plan seat asked mode))
+    makes_dir plan asked mode may =
+        begins w _ (λ session. names w asked.name _ (one_file asked.parent _ (λ dir.
+        makes_object plan session asked dir (call.MakeDir dir asked.name mode) (call.RemoveDir dir asked.name) refl
+        refl refl refl (may session))))
+
+    pub makes_node : (plan : Plan) (asked : ObjectAsked) (mode rdev : ℕ) →
+        OfAsker M plan asked.who asked.ext.sup_gid → Q (begin (mknod plan seat asked mode rdev))
+    makes_node plan asked mode rdev may =
+        begins w _ (λ session. names w asked.name _ (one_file asked.parent _ (λ dir.
+        makes_object plan session asked dir (call.MakeNode dir asked.name mode rdev) (call.Unlink dir asked.name) refl
+        refl refl refl (may session))))
+
+    targets_checked : (target : List ℕ) (next : RequestTree) → Q next → Q (targeted target next)
+    unfolding targeted
+    targets_checked target next so = checks w (list_any is_nul target) _ _ (refuses_so w einval) so
+
+    pub makes_symlink : (plan : Plan) (asked : ObjectAsked) (target : List ℕ) →
+        OfAsker M plan asked.who asked.ext.sup_gid → Q (begin (symlink plan seat asked target))
+    makes_symlink plan asked target may =
+        begins w _ (λ session. names w asked.name _ (targets_checked target _ (one_file asked.parent _ (λ dir.
+        makes_object plan session asked dir (call.SymLink dir asked.name target) (call.Unlink dir asked.name) refl
+        refl refl refl (may session)))))
+
+    -- a setting
+    sizes_checked : (valid : SetattrValid) (attr : SetattrIn) (next : RequestTree) → Q next → Q (sized valid attr next)
+    unfolding sized
+    sizes_checked valid attr next so = checks w (is_missized valid attr) _ _ (refuses_so w einval) so
 
     files_set : (handle : Option ℕ) (valid : SetattrValid) (row : Resolved) (next : Fd → RequestTree) →
         OfOpening D false → ((fd : Fd) → Q (next fd)) → Q (file_set handle valid row next)
+    unfolding file_set
     files_set handle valid row next may so =
-        checks w (opens_anew handle valid) _ _ (
-        checked w (can_open row.mode) _ _ (opens_form w row.form setting_flags next may so) (refuses_so w ebadf))
-        (files w row.form next so)
+        checks w (opens_anew handle valid) _ _ (opens_row w row setting_flags next may so) (files w row.form next so)
 
-    targets : (inode : ℕ) (handle : Option ℕ) (file : Fd) (next : Fd → Bool → RequestTree) →
-        ((target : Fd) (through : Bool) → Q (next target through)) → Q (target_of inode handle file next)
-    targets inode (Some handle) file next so = pins w handle inode _ (λ fd. so fd false)
-    targets inode None file next so = so file true
+    targets : (inode : ℕ) (handle : Option ℕ) (file : Fd) (next : Target → RequestTree) →
+        ((target : Target) → Q (next target)) → Q (target_of inode handle file next)
+    unfolding target_of
+    targets inode (Some handle) file next so = pins w handle inode _ (λ fd. so (target_as fd false))
+    targets inode None file next so = so (target_as file true)
 
     does_if : (is : Bool) (asked : Call) (next : RequestTree) → is_of_seat (Calls asked) ≡ false →
         is_making (Calls asked) ≡ false → OfDeed D false (Calls asked) → Q next → Q (do_if is asked next)
     does_if true asked next own none may so = calls asked next own none may so
     does_if false asked next own none may so = so
 
-    sizes : (plan : Plan) (valid : SetattrValid) (attr : SetattrIn) (target : Fd) (next : RequestTree) →
+    cuts : (is : Bool) (plan : Plan) (kill : Bool) (file : Fd) (size : ℕ) (next : RequestTree) →
+        OfCut D (drops_fsetid plan seat kill) → Q next → Q (cut_if is (drops_fsetid plan seat kill) file size next)
+    cuts true plan kill file size next may so =
+        drops_if w plan kill _ (
+        in_calls D (drops_fsetid plan seat kill) Q (call.Truncate file size) next refl refl (may file size) so)
+    cuts false plan kill file size next may so = so
+
+    sizes : (plan : Plan) (valid : SetattrValid) (attr : SetattrIn) (target : Target) (next : RequestTree) →
         OfCut D (drops_fsetid plan seat (kills_suidgid valid)) → Q next →
         Q (set_size plan seat valid attr target next)
     sizes plan valid attr target next may so =
-        checks w (sets_size valid) _ _ (
-        drops_if w plan (kills_suidgid valid) _ (
-        in_calls D (drops_fsetid plan seat (kills_suidgid valid)) Q (call.Truncate target attr.size) next refl refl
-        (may target attr.size) so)) so
+        cuts (sets_size valid) plan (kills_suidgid valid) target.fd attr.size next may so
 
     owns : (file : Fd) (uid gid : Option ℕ) (next : RequestTree) → Q next → Q (own_as file uid gid next)
     owns file (Some uid) (Some gid) next so = calls (call.ChOwn file uid gid) next refl refl refl so
     owns file (Some uid) None next so = refuses_so w eperm
     owns file None gid next so = refuses_so w eperm
 
+    owns_if : (is : Bool) (file : Fd) (uid gid : Option ℕ) (next : RequestTree) → Q next →
+        Q (own_if is file uid gid next)
+    owns_if true file uid gid next so = owns file uid gid next so
+    owns_if false file uid gid next so = so
+
     sets_owner : (plan : Plan) (valid : SetattrValid) (attr : SetattrIn) (file : Fd) (next : RequestTree) → Q next →
         Q (set_owner plan valid attr file next)
     sets_owner plan valid attr file next so =
-        checks w (sets_uid valid || sets_gid valid) _ _ (owns file _ _ next so) so
+        owns_if (sets_uid valid || sets_gid valid) file _ _ next so
 
-    unlinks : (parent : ℕ) (name : List ℕ) → Q (unlink parent name)
-    unlinks parent name =
+    tells : (plan : Plan) (inode : ℕ) → Q (tell_attr plan inode)
+    tells plan inode =
+        one_file inode _ (λ fd.
+        stats w fd _ (λ told.
+        w.gives (answer.Attr (attr_of plan told 0) plan.config.attr_timeout) (refl, λ out. out)))
+
+    pub sets_attr : (plan : Plan) (inode : ℕ) (handle : Option ℕ) (valid : SetattrValid) (attr : SetattrIn) →
+        OfCut D (drops_fsetid plan seat (kills_suidgid valid)) × OfOpening D false →
+        Q (begin (setattr plan seat inode handle valid attr))
+    sets_attr plan inode handle valid attr may =
         begins w _ (λ session.
-        checks w (is_bad_name name) _ _ (refuses_so w einval) (
-        one_file parent _ (λ dir.
-        calls (call.Unlink dir name) _ refl refl refl (w.gives answer.Done (refl, λ out. out)))))
+        sizes_checked valid attr _ (
+        resolves w inode _ (λ row.
+        files_set handle valid row _ may.1 (λ file.
+        targets inode handle file _ (λ target.
+        does_if (sets_mode valid) (call.ChMod target.fd target.through attr.mode) _ refl refl refl (
+        sets_owner plan valid attr file _ (
+        sizes plan valid attr target _ may.0 (
+        does_if (sets_atime valid || sets_mtime valid)
+        (call.SetTimes target.fd target.through (atime_set valid attr) (mtime_set valid attr)) _ refl refl refl (
+        tells plan inode)))))))))
 
-    removes_dir : (parent : ℕ) (name : List ℕ) → Q (rmdir parent name)
-    removes_dir parent name =
+    -- the other requests
+    pub reads_links : (inode : ℕ) → Q (begin (readlink inode))
+    reads_links inode =
         begins w _ (λ session.
-        checks w (is_bad_name name) _ _ (refuses_so w einval) (
-        one_file parent _ (λ dir.
-        calls (call.RemoveDir dir name) _ refl refl refl (w.gives answer.Done (refl, λ out. out)))))
+        one_file inode _ (λ fd.
+        reads_link fd _ (λ target. w.gives (answer.Link target) (refl, λ out. out))))
 
-    decides : (granted : Bool) → Q (Gives (if granted then answer.Done else answer.Refused eacces))
+    pub tells_fs : (inode : ℕ) → Q (begin (statfs inode))
+    tells_fs inode =
+        begins w _ (λ session.
+        one_file inode _ (λ fd.
+        stats_fs fd _ (λ told. w.gives (answer.FsStat told) (refl, λ out. out))))
+
+    pub gets_attr : (plan : Plan) (inode : ℕ) → Q (begin (getattr plan inode))
+    gets_attr plan inode = begins w _ (λ session. tells plan inode)
+
+    decides : (granted : Bool) → Q (Gives (allowed granted))
     decides true = w.gives answer.Done (refl, λ out. out)
     decides false = refuses_so w eacces
 
-    syncs : (inode handle : ℕ) (datasync : Bool) → Q (fsync inode handle datasync)
+    pub allows : (plan : Plan) (who : Context) (inode mask : ℕ) → Q (begin (access plan who inode mask))
+    allows plan who inode mask =
+        begins w _ (λ session.
+        one_file inode _ (λ fd.
+        stats w fd _ (λ told. decides (is_granted who mask (attr_of plan told 0)))))
+
+    pub unlinks : (parent : ℕ) (name : List ℕ) → Q (begin (unlink parent name))
+    unlinks parent name =
+        begins w _ (λ session. names w name _ (one_file parent _ (λ dir.
+        calls (call.Unlink dir name) _ refl refl refl (w.gives answer.Done (refl, λ out. out)))))
+
+    pub removes_dir : (parent : ℕ) (name : List ℕ) → Q (begin (rmdir parent name))
+    removes_dir parent name =
+        begins w _ (λ session. names w name _ (one_file parent _ (λ dir.
+        calls (call.RemoveDir dir name) _ refl refl refl (w.gives answer.Done (refl, λ out. out)))))
+
+    pub links : (plan : Plan) (inode newparent : ℕ) (newname : List ℕ) →
+        Q (begin (link plan inode newparent newname))
+    links plan inode newparent newname =
+        begins w _ (λ session. names w newname _ (both_files inode newparent _ (λ files.
+        calls (call.MakeLink files.from files.to newname) _ refl refl refl (
+        looks_up w plan session newparent newname _ (λ looked.
+        w.gives (answer.Entry looked.entry) (refl, λ out. out))))))
+
+    pub renames : (olddir : ℕ) (oldname : List ℕ) (newdir : ℕ) (newname : List ℕ) (flags : ℕ) →
+        Q (begin (rename olddir oldname newdir newname flags))
+    renames olddir oldname newdir newname flags =
+        begins w _ (λ session. names w oldname _ (names w newname _ (both_files olddir newdir _ (λ files.
+        calls (call.Rename files.from oldname files.to newname flags) _ refl refl refl (
+        w.gives answer.Done (refl, λ out. out))))))
+
+    pub writes : (plan : Plan) (inode handle offset : ℕ) (bytes : List ℕ) (delayed kill : Bool) (flags : ℕ) →
+        OfWrite D (drops_fsetid plan seat kill) →
+        Q (begin (write plan seat inode handle offset bytes delayed kill flags))
+    writes plan inode handle offset bytes delayed kill flags may =
+        begins w _ (λ session. places w offset _ (
+        pins w handle inode _ (λ fd.
+        counts_without plan kill (call.WriteAt fd offset bytes (appends delayed flags)) _ refl refl
+        (may fd offset bytes (appends delayed flags)) (λ count.
+        w.gives (answer.Wrote count) (refl, λ out. out)))))
+
+    pub allocates_room : (inode handle mode offset length : ℕ) → Q (begin (fallocate inode handle mode offset length))
+    allocates_room inode handle mode offset length =
+        begins w _ (λ session. places w offset _ (places w length _ (
+        pins w handle inode _ (λ fd.
+        calls (call.Allocate fd mode offset length) _ refl refl refl (w.gives answer.Done (refl, λ out. out))))))
+
+    pub seeks : (inode handle offset whence : ℕ) → Q (begin (lseek inode handle offset whence))
+    seeks inode handle offset whence =
+        begins w _ (λ session.
+        pins w handle inode _ (λ fd.
+        counts (call.Seek fd (cast_signed w64 offset) whence) _ refl refl refl (λ place.
+        w.gives (answer.Offset place) (refl, λ out. out))))
+
+    pub copies : (inode handle offset inode2 handle2 offset2 length flags : ℕ) →
+        Q (begin (copyfilerange inode handle offset inode2 handle2 offset2 length flags))
+    copies inode handle offset inode2 handle2 offset2 length flags =
+        begins w _ (λ session. places w offset _ (places w offset2 _ (places w length _ (
+        pins w handle inode _ (λ from.
+        pins w handle2 inode2 _ (λ to.
+        counts (call.CopyRange from offset to offset2 length flags) _ refl refl refl (λ count.
+        w.gives (answer.Wrote count) (refl, λ out. out))))))))
+
+    pub flushes : (inode handle : ℕ) → Q (begin (flush inode handle))
+    flushes inode handle =
+        begins w _ (λ session.
+        pins w handle inode _ (λ fd.
+        calls (call.Flush fd) _ refl refl refl (w.gives answer.Done (refl, λ out. out))))
+
+    pub syncs : (inode handle : ℕ) (datasync : Bool) → Q (begin (fsync inode handle datasync))
     syncs inode handle datasync =
         begins w _ (λ session.
         pins w handle inode _ (λ fd.
         calls (call.Sync fd datasync) _ refl refl refl (w.gives answer.Done (refl, λ out. out))))
 
-    pub each_request : (plan : Plan) (who : Context) (asked : Request) → OfMakings M plan who asked →
-        OfScopes D plan seat asked → Q (tree_of plan seat who asked)
-    each_request plan who (request.Readlink inode) may scopes =
+    pub syncs_all : (plan : Plan) (inode : ℕ) → OfOpening D false → Q (begin (syncfs plan inode))
+    syncs_all plan inode may =
         begins w _ (λ session.
-        one_file inode _ (λ fd.
-        reads_link fd _ (λ target. w.gives (answer.Link target) (refl, λ out. out))))
-    each_request plan who (request.Mkdir parent name mode umask ext) may scopes =
-        makes_named w plan (object_asked who parent name ext (made.Directory mode)) may
-    each_request plan who (request.Mknod parent name mode rdev umask ext) may scopes =
-        makes_named w plan (object_asked who parent name ext (made.Node mode rdev)) may
-    each_request plan who (request.Symlink target parent name ext) may scopes =
-        makes_named w plan (object_asked who parent name ext (made.Link target)) may
-    each_request plan who (request.StatFs inode) may scopes =
-        begins w _ (λ session.
-        one_file inode _ (λ fd.
-        stats_fs fd _ (λ told. w.gives (answer.FsStat told) (refl, λ out. out))))
-    each_request plan who (request.GetAttr inode) may scopes =
-        begins w _ (λ session.
-        one_file inode _ (λ fd.
-        stats w fd _ (λ told.
-        w.gives (answer.Attr (attr_of plan told 0) plan.config.attr_timeout) (refl, λ out. out))))
-    each_request plan who (request.Access inode mask) may scopes =
-        begins w _ (λ session.
-        one_file inode _ (λ fd.
-        stats w fd _ (λ told. decides (is_granted who mask (attr_of plan told 0)))))
-    each_request plan who (request.Unlink parent name) may scopes = unlinks parent name
-    each_request plan who (request.Rmdir parent name) may scopes = removes_dir parent name
-    each_request plan who (request.Link inode newparent newname) may scopes =
-        begins w _ (λ session.
-        checks w (is_bad_name newname) _ _ (refuses_so w einval) (
-        both_files inode newparent _ (λ from dir.
-        calls (call.MakeLink from dir newname) _ refl refl refl (
-        looks_up w plan session newparent newname _ (λ looked.
-        w.gives (answer.Entry looked.entry) (refl, λ out. out))))))
-    each_request plan who (request.Rename olddir oldname newdir newname flags) may scopes =
-        begins w _ (λ session.
-        checks w (is_bad_name oldname) _ _ (refuses_so w einval) (
-        checks w (is_bad_name newname) _ _ (refuses_so w einval) (
-        both_files olddir newdir _ (λ from to.
-        calls (call.Rename from oldname to newname flags) _ refl refl refl (
-        w.gives answer.Done (refl, λ out. out))))))
-    each_request plan who (request.SetAttr inode handle valid attr) may scopes =
-        begins w _ (λ session.
-        checks w (is_missized valid attr) _ _ (refuses_so w einval) (
-        resolves w inode _ (λ row.
-        files_set handle valid row _ scopes.1 (λ file.
-        targets inode handle file _ (λ target through.
-        does_if (sets_mode valid) (call.ChMod target through attr.mode) _ refl refl refl (
-        sets_owner plan valid attr file _ (
-        sizes plan valid attr target _ scopes.0 (
-        does_if (sets_atime valid || sets_mtime valid)
-        (call.SetTimes target through (atime_set valid attr) (mtime_set valid attr)) _ refl refl refl (
-        one_file inode _ (λ fd.
-        stats w fd _ (λ told.
-        w.gives (answer.Attr (attr_of plan told 0) plan.config.attr_timeout) (refl, λ out. out))))))))))))
-    each_request plan who (request.Other opcode) may scopes = unserves w
-    each_request plan who (request.Write inode handle offset bytes delayed kill flags) may scopes =
-        begins w _ (λ session.
-        checks w (is_bad_offset offset) _ _ (refuses_so w einval) (
-        pins w handle inode _ (λ fd.
-        counts_without plan kill (call.WriteAt fd offset bytes (appends delayed flags)) _ refl refl
-        (scopes fd offset bytes (appends delayed flags)) (λ count.
-        w.gives (answer.Wrote count) (refl, λ out. out)))))
-    each_request plan who (request.Fallocate inode handle mode offset length) may scopes =
-        begins w _ (λ session.
-        checks w (is_bad_offset offset) _ _ (refuses_so w einval) (
-        checks w (is_bad_offset length) _ _ (refuses_so w einval) (
-        pins w handle inode _ (λ fd.
-        calls (call.Allocate fd mode offset length) _ refl refl refl (w.gives answer.Done (refl, λ out. out))))))
-    each_request plan who (request.Lseek inode handle offset whence) may scopes =
-        begins w _ (λ session.
-        pins w handle inode _ (λ fd.
-        counts (call.Seek fd (cast_signed w64 offset) whence) _ refl refl refl (λ place.
-        w.gives (answer.Offset place) (refl, λ out. out))))
-    each_request plan who (request.CopyFileRange inode handle offset inode2 handle2 offset2 length flags) may scopes =
-        begins w _ (λ session.
-        checks w (is_bad_offset offset) _ _ (refuses_so w einval) (
-        checks w (is_bad_offset offset2) _ _ (refuses_so w einval) (
-        checks w (is_bad_offset length) _ _ (refuses_so w einval) (
-        pins w handle inode _ (λ from.
-        pins w handle2 inode2 _ (λ to.
-        counts (call.CopyRange from offset to offset2 length flags) _ refl refl refl (λ count.
-        w.gives (answer.Wrote count) (refl, λ out. out))))))))
-    each_request plan who (request.Flush inode handle) may scopes =
-        begins w _ (λ session.
-        pins w handle inode _ (λ fd.
-        calls (call.Flush fd) _ refl refl refl (w.gives answer.Done (refl, λ out. out))))
-    each_request plan who (request.Fsync inode handle datasync) may scopes = syncs inode handle datasync
-    each_request plan who (request.FsyncDir inode handle datasync) may scopes = syncs inode handle datasync
-    each_request plan who (request.SyncFs inode) may scopes =
-        begins w _ (λ session.
-        opens_inode w plan session inode o_nofollow _ scopes (λ fd.
+        opens_inode w plan session inode o_nofollow _ may (λ fd.
         calls (call.SyncFs fd) _ refl refl refl (w.gives answer.Done (refl, λ out. out))))
-    each_request plan who asked may scopes = each_there w plan who asked may scopes

@@ -5,6 +5,7 @@ use Rattle.std.specs.Int.{w64, cast_signed}
 use Rattle.pt_host.specs.Call.{Call}
 use Rattle.pt_host.specs.Errno.{einval, eperm}
 use Rattle.pt_host.specs.Flags.{includes}
+use Rattle.pt_host.specs.Seat.{kept_id}
 use Rattle.pt_host.specs.declared.ids.Fd.{Fd}
 use Rattle.pt_host.specs.declared.ids.TimeSet.{TimeSet}
 use Rattle.pt_host.specs.declared.ids.TimeSet.TheVariants as time
@@ -16,12 +17,15 @@ use Rattle.pt_iface.specs.declared.flags.SetattrValid.{SetattrValid}
 use Rattle.pt_iface.specs.declared.request.SetattrIn.{SetattrIn}
 use Rattle.pt_frame.specs.Tree.{RequestTree, Gives, Bares}
 use Rattle.pt_req.specs.Capability.{drops_fsetid, without_fsetid}
-use Rattle.pt_req.specs.Entries.{attr_of, is_bad_offset}
+use Rattle.pt_req.specs.Entries.{is_bad_offset}
 use Rattle.pt_req.specs.Parts.{file_of, open_row}
-use Rattle.pt_req.specs.Steps.{Resolved, begin, pin_handle, resolve, stat}
+use Rattle.pt_req.specs.Steps.{Part, ◌>>=◌, ◌>>◌, pin_handle, resolve}
+use Rattle.pt_req.specs.declared.begun.BegunSession.{BegunSession}
 use Rattle.pt_req.specs.declared.plan.Plan.{Plan}
-use Rattle.pt_attr.specs.Parts.{file_by}
+use Rattle.pt_req.specs.declared.replies.Resolved.{Resolved}
+use Rattle.pt_attr.specs.Parts.{tell_attr}
 use Rattle.pt_attr.specs.Steps.{do_call}
+use Rattle.pt_attr.specs.declared.parts.setting.Target.{Target}
 
 -- the attributes that are to be set, by the bits of `valid`
 abbrev pub sets_mode : SetattrValid → Bool
@@ -57,6 +61,9 @@ kills_suidgid valid = includes valid.0 2048
 abbrev pub is_missized : SetattrValid → SetattrIn → Bool
 is_missized valid attr = sets_size valid && is_bad_offset attr.size
 
+unfoldable pub sized : SetattrValid → SetattrIn → RequestTree → RequestTree
+sized valid attr next = if is_missized valid attr then Gives (answer.Refused einval) else next
+
 -- a size is set by a handle, or by what is opened for it, `O_NONBLOCK | O_RDWR`
 abbrev pub opens_anew : Option ℕ → SetattrValid → Bool
 opens_anew (Some handle) valid = false
@@ -65,47 +72,62 @@ opens_anew None valid = sets_size valid
 abbrev pub setting_flags : ℕ
 setting_flags = 2050
 
-abbrev pub file_set : Option ℕ → SetattrValid → Resolved → (Fd → RequestTree) → RequestTree
+unfoldable pub file_set : Option ℕ → SetattrValid → Resolved → Part Fd
 file_set handle valid row next =
     if opens_anew handle valid then open_row row setting_flags next else file_of row.form next
 
+abbrev pub target_as : Fd → Bool → Target
+target_as fd through = record { fd = fd; through = through }
+
 -- What a call goes to: the handle's descriptor, or the file, which a call has to go through.
-abbrev pub target_of : ℕ → Option ℕ → Fd → (Fd → Bool → RequestTree) → RequestTree
-target_of inode (Some handle) file next = pin_handle handle inode (λ fd. next fd false)
-target_of inode None file next = next file true
+unfoldable pub target_of : ℕ → Option ℕ → Fd → Part Target
+target_of inode (Some handle) file next = do
+  fd ← pin_handle handle inode
+  next (target_as fd false)
+target_of inode None file next = next (target_as file true)
 
 -- a call that is made only where it is asked for
 abbrev pub do_if : Bool → Call → RequestTree → RequestTree
-do_if is asked next = if is then do_call asked next else next
+do_if true asked next = do_call asked next
+do_if false asked next = next
 
-abbrev pub set_mode : SetattrValid → SetattrIn → Fd → Bool → RequestTree → RequestTree
-set_mode valid attr target through next = do_if (sets_mode valid) (call.ChMod target through attr.mode) next
+abbrev pub set_mode : SetattrValid → SetattrIn → Target → RequestTree → RequestTree
+set_mode valid attr target next = do_if (sets_mode valid) (call.ChMod target.fd target.through attr.mode) next
 
 -- the host's id for one that is set, which may be forbidden; one that is not set stays
 abbrev pub id_set : Bool → Option ℕ → Option ℕ
 id_set true mapped = mapped
-id_set false mapped = Some 4294967295
+id_set false mapped = Some kept_id
 
 abbrev pub own_as : Fd → Option ℕ → Option ℕ → RequestTree → RequestTree
 own_as file (Some uid) (Some gid) next = do_call (call.ChOwn file uid gid) next
 own_as file uid gid next = Gives (answer.Refused eperm)
 
+abbrev pub own_if : Bool → Fd → Option ℕ → Option ℕ → RequestTree → RequestTree
+own_if true file uid gid next = own_as file uid gid next
+own_if false file uid gid next = next
+
 -- the owner is always the file's, also where a handle is given
 abbrev pub set_owner : Plan → SetattrValid → SetattrIn → Fd → RequestTree → RequestTree
 set_owner plan valid attr file next =
-    if sets_uid valid || sets_gid valid then
-    own_as file (id_set (sets_uid valid) (to_host plan.uid_map attr.uid))
+    own_if (sets_uid valid || sets_gid valid) file (id_set (sets_uid valid) (to_host plan.uid_map attr.uid))
     (id_set (sets_gid valid) (to_host plan.gid_map attr.gid)) next
-    else next
 
 -- so that set-id bits go where the guest asks that
-abbrev pub set_size : Plan → HostSeat → SetattrValid → SetattrIn → Fd → RequestTree → RequestTree
+abbrev pub cut_to : Bool → Fd → ℕ → RequestTree → RequestTree
+cut_to drops file size next = do
+  without_fsetid drops
+  do_call (call.Truncate file size)
+  Bares
+  next
+
+abbrev pub cut_if : Bool → Bool → Fd → ℕ → RequestTree → RequestTree
+cut_if true drops file size next = cut_to drops file size next
+cut_if false drops file size next = next
+
+abbrev pub set_size : Plan → HostSeat → SetattrValid → SetattrIn → Target → RequestTree → RequestTree
 set_size plan seat valid attr target next =
-    if sets_size valid then
-    without_fsetid (drops_fsetid plan seat (kills_suidgid valid)) (
-    do_call (call.Truncate target attr.size) (
-    Bares next))
-    else next
+    cut_if (sets_size valid) (drops_fsetid plan seat (kills_suidgid valid)) target.fd attr.size next
 
 -- the time of the call, or the one that is told, whose seconds are signed; or it stays
 abbrev pub time_set : Bool → Bool → ℕ → ℕ → TimeSet
@@ -118,28 +140,21 @@ atime_set valid attr = time_set (atime_is_now valid) (sets_atime valid) attr.ati
 abbrev pub mtime_set : SetattrValid → SetattrIn → TimeSet
 mtime_set valid attr = time_set (mtime_is_now valid) (sets_mtime valid) attr.mtime attr.mtimensec
 
-abbrev pub set_times : SetattrValid → SetattrIn → Fd → Bool → RequestTree → RequestTree
-set_times valid attr target through next =
+abbrev pub set_times : SetattrValid → SetattrIn → Target → RequestTree → RequestTree
+set_times valid attr target next =
     do_if (sets_atime valid || sets_mtime valid)
-    (call.SetTimes target through (atime_set valid attr) (mtime_set valid attr)) next
+    (call.SetTimes target.fd target.through (atime_set valid attr) (mtime_set valid attr)) next
 
--- at last the attributes as they are then, of what the number stands for then
-abbrev pub tell_attr : Plan → ℕ → RequestTree
-tell_attr plan inode =
-    file_by inode (λ fd.
-    stat fd (λ told.
-    Gives (answer.Attr (attr_of plan told 0) plan.config.attr_timeout)))
-
--- In this order, up to the first refusal; what was set before it stays so.
-abbrev pub setattr : Plan → HostSeat → ℕ → Option ℕ → SetattrValid → SetattrIn → RequestTree
-setattr plan seat inode handle valid attr =
-    begin (λ session.
-    if is_missized valid attr then Gives (answer.Refused einval) else
-    resolve inode (λ row.
-    file_set handle valid row (λ file.
-    target_of inode handle file (λ target through.
-    set_mode valid attr target through (
-    set_owner plan valid attr file (
-    set_size plan seat valid attr target (
-    set_times valid attr target through (
-    tell_attr plan inode))))))))
+-- In this order, up to the first refusal; what was set before it stays so. At last the attributes are told as they are
+-- then, of what the number stands for then.
+abbrev pub setattr : Plan → HostSeat → ℕ → Option ℕ → SetattrValid → SetattrIn → BegunSession → RequestTree
+setattr plan seat inode handle valid attr session = do
+  sized valid attr
+  row ← resolve inode
+  file ← file_set handle valid row
+  target ← target_of inode handle file
+  set_mode valid attr target
+  set_owner plan valid attr file
+  set_size plan seat valid attr target
+  set_times valid attr target
+  tell_attr plan inode

@@ -1,12 +1,15 @@
-//! The job of a file system: any request on its way, or an edit beside the requests.
+//! Requests of names, attributes and contents, by their parts.
 #![tactic(auto)]
 
-mod access;
-mod body;
-mod job;
-mod laws;
+mod calls;
+mod grants;
+mod parts;
+mod replies;
 mod requests;
+mod steps;
 
-pub use body::AnyBody;
-pub use job::AnyJob;
-pub use laws::{jobs_are_determined, jobs_tend, no_memory_has_its_cause};
+pub use parts::ObjectAsked;
+pub use requests::{
+    CopyAsked, WriteAsked, access, copyfilerange, fallocate, flush, fsync, getattr, link, lseek,
+    mkdir, mknod, readlink, rename, rmdir, setattr, statfs, symlink, syncfs, unlink, write,
+};

@@ -1,17 +1,11 @@
-mod by_handle;
-mod by_number;
-mod copy;
-mod link;
+mod attributes;
+mod contents;
 mod making;
-mod rename;
-mod setattr;
-mod sync_fs;
+mod names;
 
-pub use by_handle::{ByHandle, ByHandleAt, HandleCall, appends};
-pub use by_number::{ByNumber, ByNumberAt, FileCall};
-pub use copy::{CopyAsked, CopyAt, CopyFileRange};
-pub use link::{Link, LinkAt};
-pub use making::{Made, Making, MakingAt, ObjectAsked};
-pub use rename::{Rename, RenameAt};
-pub use setattr::{AttrAsked, AttrFile, SetAttr, SetAttrAt};
-pub use sync_fs::{SyncFs, SyncFsAt};
+pub use attributes::{access, getattr, readlink, setattr, statfs};
+pub use contents::{
+    CopyAsked, WriteAsked, copyfilerange, fallocate, flush, fsync, lseek, syncfs, write,
+};
+pub use making::{mkdir, mknod, symlink};
+pub use names::{link, rename, rmdir, unlink};

@@ -21,7 +21,7 @@ use Rattle.pt_creds.specs.Identity.{caps_under}
 use Rattle.pt_creds.specs.Identity.{seat_under, override_cap}
 use Rattle.pt_creds.specs.Guard.{Guarded, if_any, euid_calls, egid_calls, calls_back}
 use Rattle.pt_creds.specs.Steps.{id_to_set, cred_steps, group_calls, raise_calls, calls_of, was, changes_of, guard_of}
-use Rattle.pt_creds.specs.Steps.{back_from}
+use Rattle.pt_creds.specs.Steps.{TakeBack}
 use Rattle.pt_creds.specs.Progress.{no_change, Plays, FitsSeat, IsUndone, keeping_uid, keeping_gid, keeping_groups}
 use Rattle.pt_creds.specs.Setting.{MayFail, AllPass, IsTakenBack, Sets, raises, has_raised, LeavesSeat}
 use Rattle.pt_creds.specs.Setting.{RisesWhereLost, IsLeftBy}
@@ -225,17 +225,23 @@ quiet_uid (Some uid) asked e may = subst MayFail (sym (same_head (call.SetEuid u
 
 -- what takes back the group, and the gid behind it
 back_group : (o : Option ℕ) (seat : HostSeat) →
-    calls_back (record { uid = None; gid = None; groups = was o seat.groups }) ≡ back_from seat (group_calls o)
+    TakeBack seat (group_calls o) (calls_back (record { uid = None; gid = None; groups = was o seat.groups }))
 back_group None seat = refl
-back_group (Some group) seat = refl
+back_group (Some group) seat = ([], call.SetGroups seat.groups ∷ [], refl, refl, refl)
 
 back_gid : (o p : Option ℕ) (seat : HostSeat) →
-    calls_back (record { uid = None; gid = was p seat.eff_gid; groups = was o seat.groups })
-    ≡ back_from seat (group_calls o ++ egid_calls p)
+    TakeBack seat (group_calls o ++ egid_calls p)
+    (calls_back (record { uid = None; gid = was p seat.eff_gid; groups = was o seat.groups }))
 back_gid None None seat = refl
-back_gid None (Some gid) seat = refl
-back_gid (Some group) None seat = refl
-back_gid (Some group) (Some gid) seat = refl
+back_gid None (Some gid) seat = ([], call.SetEgid seat.eff_gid ∷ [], refl, refl, refl)
+back_gid (Some group) None seat = ([], call.SetGroups seat.groups ∷ [], refl, refl, refl)
+back_gid (Some group) (Some gid) seat = (
+  call.SetEgid seat.eff_gid ∷ [],
+  call.SetGroups seat.groups ∷ [],
+  refl,
+  ([], call.SetEgid seat.eff_gid ∷ [], refl, refl, refl),
+  refl,
+)
 
 -- what is kept, step by step
 kept_group : (o : Option ℕ) (seat : HostSeat) →
@@ -290,7 +296,7 @@ pub failed : {H : Type 0} (does : HostRelation H) (faults : H → ℕ) → Law d
     calls_of (cred_steps creds s0) ≡ asked_in done ++ (calls ++ later) →
     ((asked : Call) → calls ≡ asked ∷ [] → MayFail asked → ⊥) → s1 ≡ seat_under part false s0 →
     guard ≡ changes_of (cred_steps part s0) s0 →
-    calls_back guard ≡ back_from s0 (asked_in done) → IsUndone does calls guard h1 s1 h2 s2 why →
+    TakeBack s0 (asked_in done) (calls_back guard) → IsUndone does calls guard h1 s1 h2 s2 why →
     Settled does faults creds h0 s0 h2 s2 (Err why)
 failed does faults law creds part done calls later guard h0 h1 h2 s0 s1 s2 why whole may makes were order quiet seat
     is back u =
@@ -311,7 +317,7 @@ failed does faults law creds part done calls later guard h0 h1 h2 s0 s1 s2 why w
             in_order = order ∙ ap (λ c. asked_in done ++ (c ++ later)) u.only;
             were_done = were;
             refusal = (u.refusal, quiet u.refused.asked u.only);
-            taken_back = u.taken_back ∙ back;
+            taken_back = subst (λ (c : List Call). TakeBack s0 (asked_in done) c) (sym u.taken_back) back;
           },
           end.taken,
         ),
@@ -358,7 +364,8 @@ failed_at_gid does faults law creds guard h0 h1 h2 s0 s1 s2 why whole group is u
     (append_assoc (G ++ E) U R ∙ append_assoc G E (U ++ R) ∙ ap (λ c. c ++ (E ++ (U ++ R))) (sym group.2))
     (quiet_gid steps.egid)
     (played does faults law G h0 h1 s0 s1 group ∙ group_leads creds s0 ∙ under_group creds s0) kept_now
-    (ap calls_back kept_now ∙ back_group creds.sup_gid s0 ∙ ap (λ c. back_from s0 c) (sym group.2)) u
+    (subst (λ (c : List Call). TakeBack s0 c (calls_back guard)) (sym group.2)
+    (subst (λ (x : Guarded). TakeBack s0 G (calls_back x)) (sym kept_now) (back_group creds.sup_gid s0))) u
 
 -- group and gid were taken on
 pub record Halfway {H : Type 0} (does : HostRelation H) (creds : Credentials) (guard : Guarded) (h0 h1 : H)
@@ -417,7 +424,9 @@ failed_at_uid does faults law creds guard h0 h1 h2 s0 s1 s2 why whole half u =
     half.makes half.done
     (append_assoc (G ++ E) U R ∙ ap (λ c. c ++ (U ++ R)) (sym half.asked)) (quiet_uid steps.euid)
     (half.seat ∙ under_gid creds s0) half.guarded
-    (ap calls_back half.guarded ∙ back_gid creds.sup_gid steps.egid s0 ∙ ap (λ c. back_from s0 c) (sym half.asked)) u
+    (subst (λ (c : List Call). TakeBack s0 c (calls_back guard)) (sym half.asked)
+    (subst (λ (x : Guarded). TakeBack s0 (G ++ E) (calls_back x)) (sym half.guarded)
+    (back_gid creds.sup_gid steps.egid s0))) u
 
 pass_done : (made : List CallMade) → AllDone made → AllPass made
 pass_done [] done = tt

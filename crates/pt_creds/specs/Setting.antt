@@ -12,7 +12,7 @@ use Rattle.pt_host.specs.declared.seat.HostSeat.{HostSeat}
 use Rattle.pt_creds.specs.Calls.{CallMade, asked_in, IsDone, AllDone, FailsWith, FirstFaults}
 use Rattle.pt_creds.specs.Identity.{Credentials, IsWhole, seat_under}
 use Rattle.pt_creds.specs.Guard.{Guarded}
-use Rattle.pt_creds.specs.Steps.{cred_steps, calls_of, changes_of, guard_of, back_from}
+use Rattle.pt_creds.specs.Steps.{cred_steps, calls_of, changes_of, guard_of, TakeBack}
 use Rattle.pt_creds.specs.declared.credentials.CredSteps.{CredSteps}
 use Rattle.pt_creds.specs.declared.error.CredError.{CredError}
 use Rattle.pt_creds.specs.declared.error.CredError.TheVariants as error
@@ -46,7 +46,7 @@ pub record IsBrokenOff
   pub in_order : calls_of steps ≡ asked_in done ++ refused.asked ∷ left
   pub were_done : AllDone done
   pub refusal : IsRefusal refused errno
-  pub taken_back : asked_in back ≡ back_from seat (asked_in done)
+  pub taken_back : TakeBack seat (asked_in done) (asked_in back)
 
 -- each call back was Ok and the error is the refused step's, or the first that was not is a fault, and the error
 -- tells that

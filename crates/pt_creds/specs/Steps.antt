@@ -1,5 +1,5 @@
 -- Believed. The steps of a `set`, and what they change.
-use Rattle.std.specs.Prelude.{ℕ, Bool, true, false, ◌==◌, ◌&&◌, ◌||◌, List, [], ◌∷◌, ◌++◌, Option, Some, None}
+use Rattle.std.specs.Prelude.{◌≡◌, ℕ, Bool, true, false, ◌==◌, ◌&&◌, ◌||◌, List, [], ◌∷◌, ◌++◌, Option, Some, None}
 use Rattle.std.specs.Prelude.{is_some, if◌then◌else◌}
 use Rattle.pt_host.specs.Call.{Call}
 use Rattle.pt_host.specs.declared.op.KeptHostOp.TheVariants as call
@@ -51,14 +51,16 @@ changes_of steps seat =
 abbrev pub guard_of : CredSteps → HostSeat → Option Guarded
 guard_of steps seat = if_any (changes_of steps seat)
 
--- what takes one of the calls back, to the seat from before; a capability that was raised goes by itself
-abbrev pub takes_back : HostSeat → Call → List Call
-takes_back seat (call.SetGroups list) = call.SetGroups seat.groups ∷ []
-takes_back seat (call.SetEgid gid) = call.SetEgid seat.eff_gid ∷ []
-takes_back seat (call.SetEuid uid) = call.SetEuid seat.eff_uid ∷ []
-takes_back seat asked = []
+-- This takes one of the calls back, to the seat from before; a capability that was raised goes by itself.
+abbrev pub TakesBack : HostSeat → Call → List Call → Type 0
+TakesBack seat (call.SetGroups list) back = back ≡ call.SetGroups seat.groups ∷ []
+TakesBack seat (call.SetEgid gid) back = back ≡ call.SetEgid seat.eff_gid ∷ []
+TakesBack seat (call.SetEuid uid) back = back ≡ call.SetEuid seat.eff_uid ∷ []
+TakesBack seat (call.RaiseCap cap) back = back ≡ []
+TakesBack seat asked back = ⊥
 
--- what takes these calls back, the last one first
-abbrev pub back_from : HostSeat → List Call → List Call
-back_from seat [] = []
-back_from seat (asked ∷ later) = back_from seat later ++ takes_back seat asked
+-- these take these calls back, the last one first
+abbrev pub TakeBack : HostSeat → List Call → List Call → Type 0
+TakeBack seat [] back = back ≡ []
+TakeBack seat (asked ∷ later) back =
+    (rest : List Call) × (one : List Call) × (back ≡ rest ++ one) × TakeBack seat later rest × TakesBack seat asked one

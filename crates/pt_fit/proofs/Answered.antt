@@ -5,7 +5,7 @@ use Rattle.pt_session.specs.Tables.{Tables}
 use Rattle.pt_host.specs.Relation.{HostRelation}
 use Rattle.pt_frame.specs.declared.finish.Finish.{Finish}
 use Rattle.pt_req.specs.declared.plan.Plan.{Plan}
-use Rattle.pt_attr.specs.Pattern.{Asked}
+use Rattle.pt_job.specs.Pattern.{Asked}
 use Rattle.pt_law.specs.Told.{AllMayBeTold}
 use Rattle.pt_law.specs.World.{World, Turn, Runs, HostRuns, steps_of}
 use Rattle.pt_law.specs.Discipline.{AreEnded}

@@ -26,8 +26,8 @@ use Rattle.pt_frame.specs.declared.act.ActReply.TheVariants.{Host}
 use Rattle.pt_frame.specs.declared.finish.Finish.{Finish}
 use Rattle.pt_frame.specs.declared.finish.Finish.TheVariants as finish
 use Rattle.pt_req.specs.declared.plan.Plan.{Plan}
-use Rattle.pt_attr.specs.Pattern.{Asked, Edits, Requests, grammar_for, grammar_of, tree_of}
-use Rattle.pt_attr.proofs.Answering.{has_cause, requests_spare}
+use Rattle.pt_job.specs.Pattern.{Asked, Edits, Requests, grammar_for, grammar_of, tree_of}
+use Rattle.pt_job.proofs.Answering.{has_cause, requests_spare}
 use Rattle.pt_law.specs.Branch.{TakesNone}
 use Rattle.pt_law.specs.Discipline.{ComesToEnd, blank, idle}
 use Rattle.pt_law.specs.Told.{AllMayBeTold}

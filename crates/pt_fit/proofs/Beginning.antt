@@ -13,6 +13,7 @@ use Rattle.pt_frame.specs.Grammar.{Belongs, owing}
 use Rattle.pt_frame.specs.Held.{held}
 use Rattle.pt_frame.specs.Replies.{closings_in, refusal}
 use Rattle.pt_frame.specs.Tree.{RequestTree, Gives, Refuses, Asks, Opens, Bares, Brackets, Shuts, Allocates, framed}
+use Rattle.pt_frame.specs.Tree.{on, go_on}
 use Rattle.pt_frame.specs.Tree.{follows}
 use Rattle.pt_frame.specs.Tree.{allocates, grammar_of_tree}
 use Rattle.pt_frame.specs.declared.act.ActReply.{ActReply}
@@ -21,9 +22,9 @@ use Rattle.pt_frame.specs.declared.finish.Finish.{Finish}
 use Rattle.pt_frame.specs.declared.finish.Finish.TheVariants as finish
 use Rattle.pt_frame.specs.declared.hold.Hold.{Hold}
 use Rattle.pt_frame.specs.declared.hold.Taken.TheVariants.{Nothing}
-use Rattle.pt_attr.specs.Pattern.{tree_of}
+use Rattle.pt_job.specs.Pattern.{tree_of}
 use Rattle.pt_req.specs.declared.plan.Plan.{Plan}
-use Rattle.pt_attr.specs.Pattern.{Asked, Requests, Edits, grammar_for}
+use Rattle.pt_job.specs.Pattern.{Asked, Requests, Edits, grammar_for}
 use Rattle.pt_law.specs.Laws.{IsBeginning, BeginsFirst}
 use Rattle.pt_fit.specs.Answered.{ComesToAnswer}
 
@@ -124,6 +125,7 @@ started_cut seat (Allocates rest) so_far more end s c = absurd s
 
 -- each request's tree goes on with the session, or begins it anew
 starts : (plan : Plan) (seat : HostSeat) (who : Context) (asked : Request) → Starts (tree_of plan seat who asked)
+unfolding on go_on
 starts plan seat who (request.Init capable) = elim [
   | Event (event.Cleared era closings) ↦ inl tt
   | told ↦ inr (refl, refl, refl)

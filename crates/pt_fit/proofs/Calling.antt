@@ -12,7 +12,7 @@ use Rattle.pt_host.specs.declared.stat.FsStat.{FsStat}
 use Rattle.pt_host.specs.declared.stat.Stat.{Stat}
 use Rattle.pt_frame.specs.Deed.{Calls}
 use Rattle.pt_frame.specs.Held.{held}
-use Rattle.pt_frame.specs.Tree.{RequestTree}
+use Rattle.pt_frame.specs.Tree.{RequestTree, on, go_on}
 use Rattle.pt_frame.specs.declared.act.ActReply.{ActReply}
 use Rattle.pt_frame.specs.declared.act.ActReply.TheVariants.{Host}
 use Rattle.pt_frame.specs.declared.hold.Hold.{Hold}
@@ -32,6 +32,7 @@ pub fit_read_at : {asked : Asking} {seen : List Seen} {holds : List Hold} {marks
     (offset size row : ℕ) (next : List ℕ → RequestTree) →
     ((bytes : List ℕ) → FitOn asked seen (next bytes) (hold.HandlePin row fd ∷ holds) marks notes) →
     FitOn asked seen (read_at fd offset size next) (hold.HandlePin row fd ∷ holds) marks notes
+unfolding on go_on
 fit_read_at {asked = asked} {holds = holds} fd offset size row next f = record {
   on = λ path s. (
     (((hold.HandlePin row fd, _, here, refl), tt), tt),
@@ -46,6 +47,7 @@ pub fit_read_link : {asked : Asking} {seen : List Seen} {holds : List Hold} {mar
     {notes : Notes} (fd : Fd) (row : ℕ) (next : List ℕ → RequestTree) →
     ((target : List ℕ) → FitOn asked seen (next target) (hold.Pin row (Some fd) ∷ holds) marks notes) →
     FitOn asked seen (read_link fd next) (hold.Pin row (Some fd) ∷ holds) marks notes
+unfolding on go_on
 fit_read_link {asked = asked} {holds = holds} fd row next f = record {
   on = λ path s. (
     (((hold.Pin row (Some fd), _, here, refl), tt), tt),
@@ -61,6 +63,7 @@ pub fit_stat_fs : {asked : Asking} {seen : List Seen} {holds : List Hold} {marks
     {notes : Notes} (fd : Fd) (row : ℕ) (next : FsStat → RequestTree) →
     ((told : FsStat) → FitOn asked seen (next told) (hold.Pin row (Some fd) ∷ holds) marks notes) →
     FitOn asked seen (stat_fs fd next) (hold.Pin row (Some fd) ∷ holds) marks notes
+unfolding on go_on
 fit_stat_fs {asked = asked} {holds = holds} fd row next f = record {
   on = λ path s. (
     (((hold.Pin row (Some fd), _, here, refl), tt), tt),
@@ -78,6 +81,7 @@ pub fit_look_at : {asked : Asking} {seen : List Seen} {holds : List Hold} {marks
     ((told : Stat) → GoesAfter (made (Calls (call.Stat fd)) (Host (host.Ok (value.Stat told)))) asked seen (next told)
     holds marks (looked_by fd told.ids notes)) →
     FitOn asked seen (stat fd next) holds marks notes
+unfolding on go_on
 fit_look_at {asked = asked} {holds = holds} fd next may f = record {
   on = λ path s. (
     may,
@@ -97,6 +101,7 @@ pub fit_do_call : {asked : Asking} {seen : List Seen} {holds : List Hold} {marks
     {notes : Notes} (did : Call) (next : RequestTree) → IsStillCall did → MayMake (Calls did) holds notes →
     IsHeeded asked (Calls did) holds → FitOn asked seen next holds marks notes →
     FitOn asked seen (do_call did next) holds marks notes
+unfolding on go_on
 fit_do_call {asked = asked} {holds = holds} {marks = marks} {notes = notes} did next same may heeds f = record {
   on = λ path s. (
     may,
@@ -126,6 +131,7 @@ pub fit_count_of : {asked : Asking} {seen : List Seen} {holds : List Hold} {mark
     MayMake (Calls did) holds notes → IsHeeded asked (Calls did) holds →
     ((count : ℕ) → FitOn asked seen (next count) holds marks notes) →
     FitOn asked seen (count_of did next) holds marks notes
+unfolding on go_on
 fit_count_of {asked = asked} {holds = holds} {marks = marks} {notes = notes} did next only same may heeds f = record {
   on = λ path s. (
     may,

@@ -1,5 +1,5 @@
 -- `create` is fit: as whoever asks a file is made, or one that is there is opened.
-use Rattle.std.proofs.Common.{◌≡◌, ◌++◌, ◌∷◌, ◌⊎◌, ◌∙◌, ◌&&◌, [], if◌then◌else◌, ℕ, Bool, List, None, Option, Some}
+use Rattle.std.proofs.Common.{◌≡◌, ◌∷◌, ◌⊎◌, ◌∙◌, ◌&&◌, [], if◌then◌else◌, ℕ, Bool, List, None, Option, Some}
 use Rattle.std.proofs.Common.{ap, false, inl, inr, is_some, not, refl, subst, sym, true}
 use Rattle.std.proofs.Common.{◌==◌}
 use Rattle.std.proofs.lemmas.Bool.{eqb-true}
@@ -11,9 +11,8 @@ use Rattle.pt_host.specs.declared.ids.Fd.{Fd}
 use Rattle.pt_host.specs.declared.ids.ObjIds.{ObjIds}
 use Rattle.pt_host.specs.declared.op.KeptHostOp.TheVariants as call
 use Rattle.pt_host.specs.declared.seat.HostSeat.{HostSeat}
-use Rattle.pt_creds.specs.Guard.{egid_calls, euid_calls}
 use Rattle.pt_creds.specs.Identity.{Credentials, override_cap}
-use Rattle.pt_creds.specs.Steps.{group_calls, id_to_set, raise_calls}
+use Rattle.pt_creds.specs.Steps.{id_to_set}
 use Rattle.pt_iface.specs.declared.answer.Answer.TheVariants as answer
 use Rattle.pt_iface.specs.declared.request.Context.{Context}
 use Rattle.pt_iface.specs.declared.request.Extensions.{Extensions}
@@ -25,24 +24,22 @@ use Rattle.pt_frame.specs.Tree.{Gives, RequestTree}
 use Rattle.pt_frame.specs.declared.hold.Hold.{Hold}
 use Rattle.pt_frame.specs.declared.hold.Hold.TheVariants as hold
 use Rattle.pt_session.specs.declared.form.Negotiated.{Negotiated}
-use Rattle.pt_req.specs.Asker.{as_asker, asker_from, asker_of, taken_on}
+use Rattle.pt_req.specs.Asker.{as_asker, asker_from, asker_of, cap_raised, egid_set, euid_set, group_set}
 use Rattle.pt_req.specs.Attributes.{is_blocked}
-use Rattle.pt_req.specs.Creating.{are_same, if_same, make_file, new_file, old_file, takes_old}
-use Rattle.pt_req.specs.Entries.{is_bad_name}
+use Rattle.pt_req.specs.Creating.{FileAsked, are_same, if_same, make_file, new_file, old_file, takes_old}
 use Rattle.pt_req.specs.Options.{create_options, making_flags}
 use Rattle.pt_req.specs.Parts.{by_path}
 use Rattle.pt_req.specs.Requests.{file_asked}
 use Rattle.pt_req.specs.declared.begun.BegunSession.{BegunSession}
-use Rattle.pt_req.specs.declared.parts.asked.FileAsked.{FileAsked}
 use Rattle.pt_req.specs.declared.parts.asked.NamedHandle.{NamedHandle}
 use Rattle.pt_req.specs.declared.plan.Plan.{Plan}
-use Rattle.pt_attr.specs.Pattern.{tree_of}
+use Rattle.pt_job.specs.Pattern.{tree_of}
 use Rattle.pt_law.specs.Discipline.{Notes, blank}
 use Rattle.pt_fit.specs.Cause.{Asking, BlocksLabel, IsBlockedLabel, IsStale, OwnCause, TellsCause, asking}
 use Rattle.pt_fit.proofs.Holds.{nothing_bare}
 use Rattle.pt_fit.proofs.Joined.{after_any_step, fit_gives, fit_look_up, fit_open_num}
 use Rattle.pt_fit.proofs.Labelling.{fit_labelled}
-use Rattle.pt_fit.proofs.Parts.{Agreed, FitOn, Ids, IsSeen, Opened, Seen, Told, blocked_by, fit_begin, fit_checked}
+use Rattle.pt_fit.proofs.Parts.{Agreed, FitOn, Ids, IsSeen, Opened, Seen, Told, blocked_by, fit_begin, fit_name}
 use Rattle.pt_fit.proofs.Parts.{fit_draw_handle, fit_file_of, opens_on}
 use Rattle.pt_fit.proofs.Parts.{fit_insert_given, fit_resolve, fit_stat}
 use Rattle.pt_fit.proofs.Parts.{fit_take_under}
@@ -67,32 +64,32 @@ covers_euid c = record { uncovers = c.uncovers; unscopes = c.unscopes; lays = λ
 module _ {asked : Asking} {seen : List Seen} {bare : List Hold} {marks : List ℕ} {notes : Notes}
     (rest : RequestTree) (f : (holds : List Hold) → Covers holds bare → FitOn asked seen rest holds marks notes) where
   fit_raises : (raise : Bool) (holds : List Hold) → Covers holds bare →
-      FitOn asked seen (taken_on (raise_calls raise) rest) holds marks notes
+      FitOn asked seen (cap_raised raise rest) holds marks notes
   fit_raises true holds c = fit_raise override_cap rest (f holds c)
   fit_raises false holds c = f holds c
 
   fit_euid : (euid : Option ℕ) (raise : Bool) (holds : List Hold) → Covers holds bare →
-      FitOn asked seen (taken_on (euid_calls euid ++ raise_calls raise) rest) holds marks notes
+      FitOn asked seen (euid_set euid (cap_raised raise rest)) holds marks notes
   fit_euid None raise holds c = fit_raises raise holds c
   fit_euid (Some uid) raise holds c =
-      fit_open_scope (call.SetEuid uid) hold.EffectiveUid (taken_on (raise_calls raise) rest) (λ errno. refl) refl
+      fit_open_scope (call.SetEuid uid) hold.EffectiveUid (cap_raised raise rest) (λ errno. refl) refl
       (fit_raises raise (hold.EffectiveUid ∷ holds) (covers_euid c))
 
   fit_egid : (egid euid : Option ℕ) (raise : Bool) (holds : List Hold) → Covers holds bare →
-      FitOn asked seen (taken_on (egid_calls egid ++ euid_calls euid ++ raise_calls raise) rest) holds marks notes
+      FitOn asked seen (egid_set egid (euid_set euid (cap_raised raise rest))) holds marks notes
   fit_egid None euid raise holds c = fit_euid euid raise holds c
   fit_egid (Some gid) euid raise holds c =
-      fit_open_scope (call.SetEgid gid) hold.EffectiveGid (taken_on (euid_calls euid ++ raise_calls raise) rest)
+      fit_open_scope (call.SetEgid gid) hold.EffectiveGid (euid_set euid (cap_raised raise rest))
       (λ errno. refl) refl (fit_euid euid raise (hold.EffectiveGid ∷ holds) (covers_egid c))
 
   fit_steps : (groups egid euid : Option ℕ) (raise : Bool) (holds : List Hold) → Covers holds bare →
       FitOn asked seen
-      (taken_on (group_calls groups ++ egid_calls egid ++ euid_calls euid ++ raise_calls raise) rest)
+      (group_set groups (egid_set egid (euid_set euid (cap_raised raise rest))))
       holds marks notes
   fit_steps None egid euid raise holds c = fit_egid egid euid raise holds c
   fit_steps (Some group) egid euid raise holds c =
       fit_open_scope (call.SetGroups (group ∷ [])) hold.Groups
-      (taken_on (egid_calls egid ++ euid_calls euid ++ raise_calls raise) rest) (λ errno. refl) refl
+      (egid_set egid (euid_set euid (cap_raised raise rest))) (λ errno. refl) refl
       (fit_egid egid euid raise (hold.Groups ∷ holds) (covers_groups c))
 
   -- by whoever asks, where no id is forbidden
@@ -136,6 +133,7 @@ fit_if_same : {asked : Asking} {seen : List Seen} {holds : List Hold} {marks : L
     TellsCause asked.plan asked.who asked.request path estale) →
     (made ≡ found → FitOn asked seen next holds marks notes) →
     FitOn asked seen (if_same made found next) holds marks notes
+unfolding if_same
 fit_if_same {asked = asked} {seen = seen} {holds = holds} {marks = marks} {notes = notes} made found next stale f =
     go (are_same made found) refl
   where
@@ -188,6 +186,7 @@ module _ (plan : Plan) (who : Context) (parent : ℕ) (name : List ℕ) (mode : 
       FitOn asks (Opened name (making_flags flags) mode fd ∷ Agreed session.agreed ∷ [])
       (new_file plan session file dir fd answers)
       (hold.Fd fd ∷ hold.Pin row (Some dir) ∷ []) marks notes
+  unfolding new_file
   fit_new session row dir fd e n =
       fit_stat fd _ (λ made.
       fit_labelled session fd dir name ext.secctx _
@@ -208,9 +207,10 @@ module _ (plan : Plan) (who : Context) (parent : ℕ) (name : List ℕ) (mode : 
 
   -- what was there gets one by its own
   fit_old : {marks : List ℕ} {notes : Notes} (seat : HostSeat) (session : BegunSession) (row : ℕ) (dir : Fd) →
-      notes.era ≡ Some session.era → notes.brought ≡ None → takes_old file ≡ true →
+      notes.era ≡ Some session.era → notes.brought ≡ None → takes_old flags ≡ true →
       FitOn asks (Agreed session.agreed ∷ []) (old_file plan seat session file answers)
       (hold.Pin row (Some dir) ∷ []) marks notes
+  unfolding old_file
   fit_old seat session row dir e n takes =
       fit_look_up plan session parent name _ (λ one. refl) e n (λ looked found later l.
       fit_open_num plan seat session looked.entry.inode kill flags _ (not_set (includes flags o_excl) takes)
@@ -222,9 +222,10 @@ module _ (plan : Plan) (who : Context) (parent : ℕ) (name : List ℕ) (mode : 
       notes.resolved ≡ Some (record { number = parent; row = row }) →
       FitOn asks (Agreed session.agreed ∷ []) (make_file plan seat session file dir answers)
       (hold.Pin row (Some dir) ∷ []) marks notes
+  unfolding make_file
   fit_making seat session row dir e n r =
       fit_as_asker _
-      (λ holds c. fit_make_at holds [] dir name (making_flags flags) mode row parent _ _ _ c r
+      (λ holds c. fit_make_at holds [] dir name (making_flags flags) mode row parent _ _ c r
       (λ errno no. taken _ _ errno no)
       (λ fd. fit_new session row dir fd e n) (fit_old seat session row dir e n))
       seat (asker_of plan session who ext.sup_gid) _ (covers_none row dir)
@@ -232,6 +233,6 @@ module _ (plan : Plan) (who : Context) (parent : ℕ) (name : List ℕ) (mode : 
 
   pub fit_create : (seat : HostSeat) → FitOn asks [] (tree_of plan seat who what) [] [] blank
   fit_create seat = fit_begin _ refl (λ session.
-      fit_checked (is_bad_name name) _ (λ bad. inl (bad, refl))
+      fit_name name _ (λ bad. inl (bad, refl))
       (fit_resolve parent _ nothing_bare (λ row. after_any_step (fit_file_of row.row row.form _ (λ dir.
       fit_making seat session row.row dir refl refl refl)))))

@@ -25,7 +25,7 @@ use Rattle.pt_frame.specs.declared.act.ActReply.TheVariants.{Event, Host}
 use Rattle.pt_frame.specs.declared.finish.Finish.TheVariants as finish
 use Rattle.pt_req.specs.Parts.{by_path}
 use Rattle.pt_req.specs.declared.plan.Plan.{Plan}
-use Rattle.pt_attr.specs.Pattern.{grammar_of}
+use Rattle.pt_job.specs.Pattern.{grammar_of}
 use Rattle.pt_law.specs.World.{World, Turn, steps_of, fd_of}
 use Rattle.pt_law.specs.Laws.{Starts}
 use Rattle.pt_law.specs.Naming.{resolving, opening, OpensNone, made}

@@ -17,22 +17,22 @@ use Rattle.pt_iface.specs.declared.request.Request.{Request}
 use Rattle.pt_iface.specs.declared.request.Request.TheVariants as request
 use Rattle.pt_frame.specs.Deed.{Calls, Changes, Step}
 use Rattle.pt_frame.specs.Grammar.{Belongs}
-use Rattle.pt_frame.specs.Tree.{RequestTree, Gives, grammar_of_tree}
+use Rattle.pt_frame.specs.Tree.{RequestTree, Gives, grammar_of_tree, on, go_on}
 use Rattle.pt_frame.specs.declared.act.ActReply.{ActReply}
 use Rattle.pt_frame.specs.declared.act.ActReply.TheVariants.{Event, Host}
 use Rattle.pt_frame.specs.declared.finish.Finish.TheVariants as finish
-use Rattle.pt_req.specs.Entries.{is_bad_name}
 use Rattle.pt_req.specs.Parts.{file_of, look_up, named}
-use Rattle.pt_req.specs.Steps.{Resolved, on_began, on_resolved, on_set, resolve, session_of}
+use Rattle.pt_req.specs.Steps.{resolve, session_of, began_in, ok_in, resolved_in, begin}
+use Rattle.pt_req.specs.declared.replies.Resolved.{Resolved}
 use Rattle.pt_req.specs.declared.begun.BegunSession.{BegunSession}
 use Rattle.pt_req.specs.declared.parts.looked.Looked.{Looked}
 use Rattle.pt_req.specs.declared.plan.Plan.{Plan}
-use Rattle.pt_attr.specs.Making.{make_named, object_asked}
-use Rattle.pt_attr.specs.Pattern.{Asked, Edits, Requests, grammar_for, grammar_of}
-use Rattle.pt_attr.specs.Requests.{files_by}
+use Rattle.pt_job.specs.Pattern.{Asked, Edits, Requests, grammar_for, grammar_of}
+use Rattle.pt_attr.specs.Making.{ObjectAsked}
+use Rattle.pt_attr.specs.Parts.{files_by, two_files}
 use Rattle.pt_attr.specs.Steps.{do_call}
-use Rattle.pt_attr.specs.declared.requests.making.Made.TheVariants as kind
-use Rattle.pt_attr.specs.declared.requests.making.ObjectAsked.{ObjectAsked}
+use Rattle.pt_attr.specs.declared.parts.TwoFiles.{TwoFiles}
+use Rattle.pt_job.specs.Requests.{object_asked}
 use Rattle.pt_law.specs.Discipline.{AreDisciplined}
 use Rattle.pt_law.specs.Laws.{Starts}
 use Rattle.pt_law.specs.Naming.{made}
@@ -43,8 +43,9 @@ use Rattle.pt_fit.specs.Fit.{MayAnswer}
 use Rattle.pt_fit.specs.Opened.{IsLookedUp}
 use Rattle.pt_fit.proofs.Asked.{edit_passes_none, request_right}
 use Rattle.pt_fit.proofs.Entered.{placed_law}
+use Rattle.pt_fit.proofs.ObjectKinds.{Kind, Directory, Link, Node, make_named}
 use Rattle.pt_fit.proofs.Leading.{HasEntry, Leads, goes_on, none_told, refused_none, shut_none}
-use Rattle.pt_fit.proofs.Looking.{began, good_name, looked_up, looks, resolved, then_step}
+use Rattle.pt_fit.proofs.Looking.{began, good_named, looked_up, looks, resolved, then_step}
 use Rattle.pt_fit.proofs.ObjectEntries.{made_by}
 
 -- What was asked names a parent and a name. The job's steps begin it, come to a lookup of these, and go on.
@@ -62,30 +63,32 @@ pub record EntryBy (plan : Plan) (asked : Asked) (entry : Entry) (steps : List S
 
 -- a call that tells nothing was Ok
 pub done_on : (seat : HostSeat) (next : RequestTree) (told : ActReply) (rest : List Step) (last : Answer) →
-    HasEntry last → Leads seat (on_set next told) rest last → Leads seat next rest last
+    HasEntry last → Leads seat (on ok_in (λ done. next) told) rest last → Leads seat next rest last
+unfolding on go_on
 done_on seat next (Host (host.Ok value)) rest last p l = l
 done_on seat next told rest last p l = absurd (refused_none seat told rest last p l)
 
 -- two numbers were resolved
-record Both (seat : HostSeat) (next : Fd → Fd → RequestTree) (steps : List Step) (last : Answer) : Type 0 where
+record Both (seat : HostSeat) (next : TwoFiles → RequestTree) (steps : List Step) (last : Answer) : Type 0 where
   one : Step
   other : Step
   rest : List Step
   are : steps ≡ one ∷ other ∷ rest
   from : Fd
   to : Fd
-  on : Leads seat (next from to) rest last
+  on : Leads seat (next (two_files from to)) rest last
 
-both : (seat : HostSeat) (first second : ℕ) (next : Fd → Fd → RequestTree) (steps : List Step) (last : Answer) →
+both : (seat : HostSeat) (first second : ℕ) (next : TwoFiles → RequestTree) (steps : List Step) (last : Answer) →
     HasEntry last → Leads seat (files_by first second next) steps last → Both seat next steps last
+unfolding on go_on files_by
 both seat first second next steps last p l =
     let files : RowForm → Resolved → RequestTree =
-    λ form other. file_of form (λ from. file_of other.form (λ to. next from to)) in
+    λ form other. file_of form (λ from. file_of other.form (λ to. next (two_files from to))) in
     let then : Resolved → RequestTree = λ one. resolve second (files one.form) in
-    let r = goes_on seat (Changes (change.Resolve first)) (on_resolved then) steps last refl
+    let r = goes_on seat (Changes (change.Resolve first)) (on resolved_in then) steps last refl
     (none_told (change.Resolve first) (λ t. refl)) p l in
     let k = resolved seat then r.told r.rest last p r.on in
-    let s = goes_on seat (Changes (change.Resolve second)) (on_resolved (files k.1)) r.rest last refl
+    let s = goes_on seat (Changes (change.Resolve second)) (on resolved_in (files k.1)) r.rest last refl
     (none_told (change.Resolve second) (λ t. refl)) p k.5 in
     let m = resolved seat (files k.1) s.told s.rest last p s.on in
     let d = at k.1 m.1 s.rest m.5 in
@@ -100,8 +103,8 @@ both seat first second next steps last p l =
     }
   where
     at : (form also : RowForm) (rest : List Step) →
-        Leads seat (file_of form (λ from. file_of also (λ to. next from to))) rest last →
-        (from : Fd) × (to : Fd) × Leads seat (next from to) rest last
+        Leads seat (file_of form (λ from. file_of also (λ to. next (two_files from to)))) rest last →
+        (from : Fd) × (to : Fd) × Leads seat (next (two_files from to)) rest last
     at (File from) (File to) rest a = (from, to, a)
 
 linked_up : (plan : Plan) (seat : HostSeat) (who : Context) (inode newparent : ℕ) (newname : List ℕ) (entry : Entry)
@@ -109,22 +112,24 @@ linked_up : (plan : Plan) (seat : HostSeat) (who : Context) (inode newparent : �
     Belongs (grammar_of plan seat who (request.Link inode newparent newname)) steps
     (finish.Answer (answer.Entry entry)) →
     EntryBy plan (Requests who (request.Link inode newparent newname)) entry steps
+unfolding on go_on
 linked_up plan seat who inode newparent newname entry steps b =
     let last : Answer = answer.Entry entry in
     let answers : Looked → RequestTree = λ looked. Gives (answer.Entry looked.entry) in
-    let links : BegunSession → Fd → Fd → RequestTree =
-    λ session from dir. do_call (call.MakeLink from dir newname) (look_up plan session newparent newname answers) in
+    let links : BegunSession → TwoFiles → RequestTree =
+    λ session both. do_call (call.MakeLink both.from both.to newname)
+    (look_up plan session newparent newname answers) in
     let begins : BegunSession → RequestTree =
     λ session. named newname (files_by inode newparent (links session)) in
-    let g = goes_on seat (Changes change.Begin) (on_began begins) steps last refl
+    let g = goes_on seat (Changes change.Begin) (on began_in begins) steps last refl
     (none_told change.Begin (λ t. refl)) refl (record { holds = []; marks = []; belongs = b }) in
     let k = began seat begins g.told g.rest last refl g.on in
     let this = session_of k.0 k.1 in
     let m = both seat inode newparent (links this) g.rest last refl
-    (good_name seat (is_bad_name newname) (files_by inode newparent (links this)) g.rest last refl k.3) in
+    (good_named seat newname (files_by inode newparent (links this)) g.rest last refl k.3) in
     let finds : RequestTree = look_up plan this newparent newname answers in
-    let c = goes_on seat (Calls (call.MakeLink m.from m.to newname)) (on_set finds) m.rest last refl (λ t. refl) refl
-    m.on in
+    let c = goes_on seat (Calls (call.MakeLink m.from m.to newname)) (on ok_in (λ done. finds)) m.rest last refl
+    (λ t. refl) refl m.on in
     let l = looks seat plan this newparent newname answers c.rest last refl
     (done_on seat finds c.told c.rest last refl c.on) in
     let link : Step = made (Calls (call.MakeLink m.from m.to newname)) c.told in
@@ -166,12 +171,14 @@ lookup_by plan seat who parent name entry steps b =
       by = e.5;
     }
 
-made_up : (plan : Plan) (seat : HostSeat) (asked : Asked) (object : ObjectAsked) (entry : Entry) (steps : List Step) →
+made_up : (plan : Plan) (seat : HostSeat) (asked : Asked) (object : ObjectAsked) (its : Kind) (entry : Entry)
+    (steps : List Step) →
     name_asked asked ≡ Some (object.parent, object.name) →
-    Belongs (grammar_of_tree seat (make_named plan seat object)) steps (finish.Answer (answer.Entry entry)) →
+    Belongs (grammar_of_tree seat (begin (make_named plan seat object its))) steps
+    (finish.Answer (answer.Entry entry)) →
     EntryBy plan asked entry steps
-made_up plan seat asked object entry steps names b =
-    let e = made_by plan seat object entry steps b in
+made_up plan seat asked object its entry steps names b =
+    let e = made_by plan seat object its entry steps b in
     record {
       parent = object.parent;
       name = object.name;
@@ -196,13 +203,13 @@ entry_by plan seat who (request.Link inode newparent newname) entry steps m b =
     linked_up plan seat who inode newparent newname entry steps b
 entry_by plan seat who (request.Mkdir parent name mode umask ext) entry steps m b =
     made_up plan seat (Requests who (request.Mkdir parent name mode umask ext))
-    (object_asked who parent name ext (kind.Directory mode)) entry steps refl b
+    (object_asked who parent name ext) (Directory mode) entry steps refl b
 entry_by plan seat who (request.Mknod parent name mode rdev umask ext) entry steps m b =
     made_up plan seat (Requests who (request.Mknod parent name mode rdev umask ext))
-    (object_asked who parent name ext (kind.Node mode rdev)) entry steps refl b
+    (object_asked who parent name ext) (Node mode rdev) entry steps refl b
 entry_by plan seat who (request.Symlink target parent name ext) entry steps m b =
     made_up plan seat (Requests who (request.Symlink target parent name ext))
-    (object_asked who parent name ext (kind.Link target)) entry steps refl b
+    (object_asked who parent name ext) (Link target) entry steps refl b
 entry_by plan seat who what entry steps m b = absurd m
 
 -- whatever is asked

@@ -21,13 +21,14 @@ use Rattle.pt_iface.specs.declared.request.Request.TheVariants as request
 use Rattle.pt_frame.specs.Deed.{Calls, Changes, Step}
 use Rattle.pt_frame.specs.Grammar.{Belongs}
 use Rattle.pt_req.specs.Entries.{entry_of}
-use Rattle.pt_req.specs.Parts.{by_path}
-use Rattle.pt_attr.specs.Pattern.{grammar_of}
+use Rattle.pt_req.specs.Parts.{by_path, named, look_up}
+use Rattle.pt_job.specs.Pattern.{grammar_of}
 use Rattle.pt_frame.specs.declared.act.ActReply.TheVariants.{Event, Host}
 use Rattle.pt_frame.specs.declared.finish.Finish.TheVariants as finish
 use Rattle.pt_req.specs.declared.plan.Plan.{Plan}
 use Rattle.pt_law.specs.Told.{AllMayBeTold}
 use Rattle.pt_law.specs.Naming.{made}
+use Rattle.pt_frame.specs.Tree.{on, go_on}
 
 abbrev fd : ℕ → Fd
 fd number = record { 0 = number }
@@ -54,6 +55,7 @@ steps stat =
 belongs : (plan : Plan) (seat : HostSeat) (who : Context) (stat : Stat) →
     Belongs (grammar_of plan seat who (request.Lookup 1 name)) (steps stat)
     (finish.Answer (answer.Entry (entry_of plan nothing_agreed root_ids stat 2)))
+unfolding on go_on named look_up
 belongs plan seat who stat =
     (refl, (refl, (refl, (refl, (refl, (refl, (refl, (refl, (refl, refl)))))))))
 
@@ -162,4 +164,5 @@ told stat apart =
 refuses : (plan : Plan) (seat : HostSeat) (who : Context) →
     Belongs (grammar_of plan seat who (request.Lookup 1 []))
     (made (Changes change.Begin) (Event (event.Began 0 nothing_agreed)) ∷ []) (finish.Answer (answer.Refused einval))
+unfolding on go_on named
 refuses plan seat who = (refl, refl)

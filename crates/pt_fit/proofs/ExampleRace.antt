@@ -32,8 +32,8 @@ use Rattle.pt_iface.specs.declared.request.Request.TheVariants as request
 use Rattle.pt_frame.specs.Deed.{Calls, Changes}
 use Rattle.pt_frame.specs.Grammar.{Belongs}
 use Rattle.pt_req.specs.Entries.{entry_of}
-use Rattle.pt_req.specs.Parts.{by_path}
-use Rattle.pt_attr.specs.Pattern.{Asked, Requests, grammar_for}
+use Rattle.pt_req.specs.Parts.{by_path, named, look_up}
+use Rattle.pt_job.specs.Pattern.{Asked, Requests, grammar_for}
 use Rattle.pt_iface.specs.declared.request.Context.{Context}
 use Rattle.pt_frame.specs.declared.act.ActReply.TheVariants.{Event, Host}
 use Rattle.pt_frame.specs.declared.finish.Finish.{Finish}
@@ -49,6 +49,7 @@ use Rattle.pt_law.proofs.Lists.{set_at_same, set_at_other}
 use Rattle.pt_law.proofs.Laws.{ended_jobs}
 use Rattle.pt_fit.proofs.Answered.{run_ended}
 use Rattle.pt_fit.proofs.Entered.{entered_law}
+use Rattle.pt_frame.specs.Tree.{on, go_on}
 
 abbrev pub fd : ℕ → Fd
 fd number = record { 0 = number }
@@ -487,6 +488,7 @@ ends plan root file (suc job) = finish.Answer (answer.Entry (entry_of plan nothi
 
 pub belongs : (plan : Plan) (seat : HostSeat) (who : Context) (root file : Stat) (job : ℕ) → job < 3 →
     Belongs (grammar_for plan seat (asked_by who job)) (steps_of job (turns plan root file)) (ends plan root file job)
+unfolding on go_on named look_up
 belongs plan seat who root file zero l = (refl, (refl, (refl, (refl, (refl, refl)))))
 belongs plan seat who root file (suc zero) l =
     (refl, (refl, (refl, (refl, (refl, (refl, (refl, (refl, (refl, refl)))))))))

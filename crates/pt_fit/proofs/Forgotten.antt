@@ -1,6 +1,7 @@
 -- A request on a number that is gone is answered EBADF.
 use Rattle.std.proofs.Common.{◌≡◌, ◌⊎◌, inl, inr, ℕ, List, [], ◌∷◌, ◌++◌, Bool, true, false, refl, ap, subst, ◌∙◌}
 use Rattle.std.proofs.Common.{if◌then◌else◌, append_assoc, arith, Option, Some, None, sym}
+use Rattle.std.specs.List.{list_any}
 use Rattle.std.specs.Prelude.{◌&&◌}
 use Rattle.pt_host.specs.Errno.{ebadf, einval}
 use Rattle.pt_host.specs.Flags.{includes, o_directory}
@@ -33,7 +34,7 @@ use Rattle.pt_frame.specs.Frame.{leave}
 use Rattle.pt_frame.specs.Held.{held, opened}
 use Rattle.pt_frame.specs.Replies.{closings_in}
 use Rattle.pt_frame.specs.Grammar.{Belongs}
-use Rattle.pt_frame.specs.Tree.{RequestTree, Gives, Refuses, Asks, Bares, Brackets, Shuts, framed}
+use Rattle.pt_frame.specs.Tree.{RequestTree, Gives, Refuses, Asks, Bares, Brackets, Shuts, framed, on, go_on}
 use Rattle.pt_frame.specs.Tree.{follows as framed_follows, grammar_of_tree, allocates}
 use Rattle.pt_frame.specs.declared.act.ActReply.{ActReply}
 use Rattle.pt_frame.specs.declared.act.ActReply.TheVariants.{Event, Host, NoCopy}
@@ -44,23 +45,25 @@ use Rattle.pt_frame.specs.declared.hold.Hold.TheVariants as hold
 use Rattle.pt_req.specs.Capability.{drops_fsetid, fsetid, without_fsetid}
 use Rattle.pt_req.specs.Entries.{is_bad_name}
 use Rattle.pt_req.specs.Options.{with_bits, cleaned, inode_flags, o_nofollow, open_options, create_options}
-use Rattle.pt_req.specs.Parts.{by_path, file_of, handled_num, named, numbered, looked_of, look_up, open_row}
-use Rattle.pt_attr.specs.Pattern.{tree_of}
+use Rattle.pt_req.specs.Parts.{by_path, file_of, handled, named, numbered, looked_of, look_up, open_row}
+use Rattle.pt_job.specs.Pattern.{tree_of}
 use Rattle.pt_req.specs.Creating.{make_file}
 use Rattle.pt_req.specs.Requests.{lookup, open_dir, open_file, file_asked}
-use Rattle.pt_req.specs.Steps.{session_of, begin, on_began, Resolved, resolve, on_resolved, on_set, open_at}
-use Rattle.pt_req.specs.Steps.{stat}
+use Rattle.pt_req.specs.Steps.{session_of, begin, resolve, open_at, stat, began_in, ok_in, resolved_in}
+use Rattle.pt_req.specs.declared.replies.Resolved.{Resolved}
 use Rattle.pt_req.specs.declared.begun.BegunSession.{BegunSession}
 use Rattle.pt_req.specs.declared.plan.Plan.{Plan}
-use Rattle.pt_attr.specs.Pattern.{grammar_of}
+use Rattle.pt_job.specs.Pattern.{grammar_of}
 use Rattle.pt_attr.specs.Contents.{syncfs}
-use Rattle.pt_attr.specs.Making.{is_bad_target, make_named, make_object, object_asked, targeted}
-use Rattle.pt_attr.specs.declared.requests.making.Made.TheVariants as made
-use Rattle.pt_attr.specs.declared.requests.making.ObjectAsked.{ObjectAsked}
-use Rattle.pt_attr.specs.Setting.{file_set, is_missized, set_mode, set_owner, set_size, set_times, setattr}
-use Rattle.pt_attr.specs.Setting.{target_of, tell_attr}
+use Rattle.pt_attr.specs.Making.{ObjectAsked, is_nul, targeted}
+use Rattle.pt_attr.specs.Setting.{file_set, is_missized, set_mode, set_owner, set_size, set_times, setattr, sized}
+use Rattle.pt_attr.specs.Setting.{target_of}
 use Rattle.pt_attr.specs.Steps.{do_call}
-use Rattle.pt_attr.specs.Requests.{access, file_by, getattr, link, readlink, rename, rmdir, statfs, unlink}
+use Rattle.pt_attr.specs.Parts.{file_by, files_by, tell_attr}
+use Rattle.pt_attr.specs.Requests.{access, getattr, link, readlink, rename, rmdir, statfs, unlink}
+use Rattle.pt_job.specs.Requests.{object_asked}
+use Rattle.pt_fit.proofs.ObjectKinds.{Kind, Directory, Link, Node, is_bad_target, make_kind, make_named}
+use Rattle.pt_fit.proofs.ObjectKinds.{targeted_as}
 use Rattle.pt_law.specs.World.{Turn, turn_by, TablesGo, TablesRun, steps_of}
 use Rattle.pt_law.specs.Ledger.{inserted}
 use Rattle.pt_law.specs.Branch.{IsGivenUp}
@@ -105,7 +108,7 @@ follows seat deed next holds marks step steps end c h b =
     elim (follows_plain seat (allocates (next step.reply)) (closings_in deed step.reply)
     (held deed step.reply holds) (framed seat (next step.reply) (held deed step.reply holds) marks) steps end c b.1) [
       | inl up ↦ inl up
-      | inr on ↦ inr (subst (λ (z : List Hold). Belongs (framed seat (next step.reply) z marks) steps end) h on)
+      | inr later ↦ inr (subst (λ (z : List Hold). Belongs (framed seat (next step.reply) z marks) steps end) h later)
     ]
 
 abbrev Answers : Finish → Type 0
@@ -120,6 +123,10 @@ answered seat holds steps end b =
       | inr lost ↦ inr (lost_up end lost)
     ]
 
+gone_refused : (next : Resolved → RequestTree) → on resolved_in next gone ≡ Refuses gone
+unfolding on go_on
+gone_refused next = refl
+
 -- the number is resolved where it is not live
 resolved : (seat : HostSeat) (holds : List Hold) (marks : List ℕ) (number : ℕ) (next : ActReply → RequestTree)
     (t t' : Tables) (step : Step) (steps : List Step) (end : Finish) → NoRow t (HasNumber number) →
@@ -132,8 +139,8 @@ resolved seat holds marks number next t t' step steps end none refuses go b =
     (ap (closings_in (Changes (change.Resolve number))) told)
     (ap (λ r. held (Changes (change.Resolve number)) r holds) told) b) [
       | inl up ↦ inr up
-      | inr on ↦ answered seat holds steps end
-          (subst (λ tree. Belongs (framed seat tree holds marks) steps end) (ap next told ∙ refuses) on)
+      | inr later ↦ answered seat holds steps end
+          (subst (λ tree. Belongs (framed seat tree holds marks) steps end) (ap next told ∙ refuses) later)
     ]
 
 -- in a bracket, or in none
@@ -152,24 +159,40 @@ good_name : (bad : Bool) (next : RequestTree) → bad ≡ false →
 good_name true next e = absurd (cc)
 good_name false next e = refl
 
+good_named : (name : List ℕ) (next : RequestTree) → is_bad_name name ≡ false → named name next ≡ next
+unfolding named
+good_named name next good = good_name (is_bad_name name) next good
+
+good_sized : (valid : SetattrValid) (attr : SetattrIn) (next : RequestTree) → is_missized valid attr ≡ false →
+    sized valid attr next ≡ next
+unfolding sized
+good_sized valid attr next good = good_name (is_missized valid attr) next good
+
+good_target : (its : Kind) (next : RequestTree) → is_bad_target its ≡ false → targeted_as its next ≡ next
+unfolding targeted
+good_target (Directory mode) next good = refl
+good_target (Node mode rdev) next good = refl
+good_target (Link target) next good = good_name (list_any is_nul target) next good
+
 on_lookup : (plan : Plan) (parent : ℕ) (name : List ℕ) → is_bad_name name ≡ false →
-    Resolves parent false (lookup plan parent name)
+    Resolves parent false (begin (lookup plan parent name))
+unfolding look_up
 on_lookup plan parent name good = (
   true,
   (λ session directory. file_of directory.form (λ dir. open_at dir name by_path (λ fd. stat fd (λ told.
       numbered session (File fd) told (λ number.
-      Shuts true (Gives (answer.Entry (looked_of plan session directory.ids told (File fd) number).entry))))))),
-  (λ i. begin (λ session. good_name (is_bad_name name) (look_up plan session parent name (λ looked.
+      Shuts true (Gives (answer.Entry (looked_of plan session directory.ids told number).entry))))))),
+  (λ i. begin (λ session. good_named name (look_up plan session parent name (λ looked.
       Gives (answer.Entry looked.entry))) good i)),
 )
 
 on_open : (plan : Plan) (seat : HostSeat) (inode : ℕ) (kill : Bool) (flags : ℕ) →
-    Resolves inode (drops_fsetid plan seat kill) (open_file plan seat inode kill flags)
+    Resolves inode (drops_fsetid plan seat kill) (begin (open_file plan seat inode kill flags))
 on_open plan seat inode kill flags = (
   true,
   (λ session row. open_row row (inode_flags plan.config session.agreed (cleaned plan.config flags)) (λ fd.
-      Bares (handled_num session inode (λ handle.
-      Gives (answer.Opened handle (open_options plan.config flags))) fd))),
+      Bares (handled session inode fd (λ handle.
+      Shuts false (Gives (answer.Opened handle (open_options plan.config flags))))))),
   refl,
 )
 
@@ -183,7 +206,7 @@ on_create plan seat who parent name mode kill flags umask ext good =
     Gives (answer.Created both.entry both.handle (create_options plan.config)))) in (
       false,
       next,
-      (λ i. begin (λ session. good_name (is_bad_name name) (resolve parent (next session)) good i)),
+      (λ i. begin (λ session. good_named name (resolve parent (next session)) good i)),
     )
 
 -- what goes on with the file of the number
@@ -195,23 +218,24 @@ on_named_file : (number : ℕ) (name : List ℕ) (next : Fd → RequestTree) →
 on_named_file number name next good = (
   false,
   (λ session row. file_of row.form next),
-  (λ i. begin (λ session. good_name (is_bad_name name) (file_by number next) good i)),
+  (λ i. begin (λ session. good_named name (file_by number next) good i)),
 )
 
-on_made : (plan : Plan) (seat : HostSeat) (object : ObjectAsked) → is_bad_name object.name ≡ false →
-    is_bad_target object.made ≡ false → Resolves object.parent false (make_named plan seat object)
-on_made plan seat object good well =
+on_made : (plan : Plan) (seat : HostSeat) (object : ObjectAsked) (its : Kind) → is_bad_name object.name ≡ false →
+    is_bad_target its ≡ false → Resolves object.parent false (begin (make_named plan seat object its))
+on_made plan seat object its good well =
     let next : BegunSession → Resolved → RequestTree = λ session directory.
-    file_of directory.form (make_object plan seat session object) in (
+    file_of directory.form (make_kind plan seat session object its) in (
       false,
       next,
       (λ i. begin (λ session.
-          (good_name (is_bad_name object.name) (targeted object.made (resolve object.parent (next session))) good
-          ∙ good_name (is_bad_target object.made) (resolve object.parent (next session)) well) i)),
+          (good_named object.name (targeted_as its (resolve object.parent (next session))) good
+          ∙ good_target its (resolve object.parent (next session)) well) i)),
     )
 
 on_link : (plan : Plan) (inode newparent : ℕ) (newname : List ℕ) → is_bad_name newname ≡ false →
-    Resolves inode false (link plan inode newparent newname)
+    Resolves inode false (begin (link plan inode newparent newname))
+unfolding files_by
 on_link plan inode newparent newname good =
     let next : BegunSession → Resolved → RequestTree = λ session one. resolve newparent (λ other.
     file_of one.form (λ from. file_of other.form (λ dir.
@@ -219,12 +243,13 @@ on_link plan inode newparent newname good =
     Gives (answer.Entry looked.entry)))))) in (
       false,
       next,
-      (λ i. begin (λ session. good_name (is_bad_name newname) (resolve inode (next session)) good i)),
+      (λ i. begin (λ session. good_named newname (resolve inode (next session)) good i)),
     )
 
 on_rename : (olddir : ℕ) (oldname : List ℕ) (newdir : ℕ) (newname : List ℕ) (flags : ℕ) →
     is_bad_name oldname ≡ false → is_bad_name newname ≡ false →
-    Resolves olddir false (rename olddir oldname newdir newname flags)
+    Resolves olddir false (begin (rename olddir oldname newdir newname flags))
+unfolding files_by
 on_rename olddir oldname newdir newname flags good also =
     let next : Resolved → RequestTree = λ one. resolve newdir (λ other.
     file_of one.form (λ from. file_of other.form (λ to.
@@ -232,27 +257,27 @@ on_rename olddir oldname newdir newname flags good also =
       false,
       (λ session. next),
       (λ i. begin (λ session.
-          (good_name (is_bad_name oldname) (named newname (resolve olddir next)) good
-          ∙ good_name (is_bad_name newname) (resolve olddir next) also) i)),
+          (good_named oldname (named newname (resolve olddir next)) good
+          ∙ good_named newname (resolve olddir next) also) i)),
     )
 
 on_setattr : (plan : Plan) (seat : HostSeat) (inode : ℕ) (handle : Option ℕ) (valid : SetattrValid)
     (attr : SetattrIn) →
-    is_missized valid attr ≡ false → Resolves inode false (setattr plan seat inode handle valid attr)
+    is_missized valid attr ≡ false → Resolves inode false (begin (setattr plan seat inode handle valid attr))
 on_setattr plan seat inode handle valid attr good =
     let next : Resolved → RequestTree = λ row.
     file_set handle valid row (λ file.
-    target_of inode handle file (λ target through.
-    set_mode valid attr target through (
+    target_of inode handle file (λ target.
+    set_mode valid attr target (
     set_owner plan valid attr file (
     set_size plan seat valid attr target (
-    set_times valid attr target through (tell_attr plan inode)))))) in (
+    set_times valid attr target (tell_attr plan inode)))))) in (
       false,
       (λ session. next),
-      (λ i. begin (λ session. good_name (is_missized valid attr) (resolve inode next) good i)),
+      (λ i. begin (λ session. good_sized valid attr (resolve inode next) good i)),
     )
 
-on_syncfs : (plan : Plan) (inode : ℕ) → Resolves inode false (syncfs plan inode)
+on_syncfs : (plan : Plan) (inode : ℕ) → Resolves inode false (begin (syncfs plan inode))
 on_syncfs plan inode = (
   false,
   (λ session row. open_row row (inode_flags plan.config session.agreed o_nofollow) (λ fd.
@@ -275,50 +300,54 @@ none_asked plan seat = go plan.config.killpriv_v2
 
 resolves : (plan : Plan) (seat : HostSeat) (who : Context) (what : Request) (number : ℕ) → IsOn number what →
     Resolves number (drops_before plan seat what) (tree_of plan seat who what)
-resolves plan seat who (request.Lookup parent name) number on =
-    subst (λ n. Resolves n false (lookup plan parent name)) on.0 (on_lookup plan parent name on.1)
-resolves plan seat who (request.Open inode kill flags) number on =
-    subst (λ n. Resolves n (drops_fsetid plan seat kill) (open_file plan seat inode kill flags)) on
+resolves plan seat who (request.Lookup parent name) number it =
+    subst (λ n. Resolves n false (begin (lookup plan parent name))) it.0 (on_lookup plan parent name it.1)
+resolves plan seat who (request.Open inode kill flags) number it =
+    subst (λ n. Resolves n (drops_fsetid plan seat kill) (begin (open_file plan seat inode kill flags))) it
     (on_open plan seat inode kill flags)
-resolves plan seat who (request.OpenDir inode flags) number on =
-    subst (λ n. Resolves n false (open_dir plan seat inode flags)) on
-    (subst (λ (b : Bool). Resolves inode b (open_dir plan seat inode flags)) (none_asked plan seat)
+resolves plan seat who (request.OpenDir inode flags) number it =
+    subst (λ n. Resolves n false (begin (open_dir plan seat inode flags))) it
+    (subst (λ (b : Bool). Resolves inode b (begin (open_dir plan seat inode flags))) (none_asked plan seat)
     (on_open plan seat inode false (with_bits flags o_directory)))
-resolves plan seat who (request.Create parent name mode kill flags umask ext) number on =
-    subst (λ n. Resolves n false (tree_of plan seat who (request.Create parent name mode kill flags umask ext))) on.0
-    (on_create plan seat who parent name mode kill flags umask ext on.1)
-resolves plan seat who (request.Mkdir parent name mode umask ext) number on =
-    let object = object_asked who parent name ext (made.Directory mode) in
-    subst (λ n. Resolves n false (make_named plan seat object)) on.0 (on_made plan seat object on.1 refl)
-resolves plan seat who (request.Mknod parent name mode rdev umask ext) number on =
-    let object = object_asked who parent name ext (made.Node mode rdev) in
-    subst (λ n. Resolves n false (make_named plan seat object)) on.0 (on_made plan seat object on.1 refl)
-resolves plan seat who (request.Symlink target parent name ext) number on =
-    let object = object_asked who parent name ext (made.Link target) in
-    subst (λ n. Resolves n false (make_named plan seat object)) on.0 (on_made plan seat object on.1 on.2)
-resolves plan seat who (request.Readlink inode) number on =
-    subst (λ n. Resolves n false (readlink inode)) on (on_file inode _)
-resolves plan seat who (request.StatFs inode) number on =
-    subst (λ n. Resolves n false (statfs inode)) on (on_file inode _)
-resolves plan seat who (request.GetAttr inode) number on =
-    subst (λ n. Resolves n false (getattr plan inode)) on (on_file inode _)
-resolves plan seat who (request.Access inode mask) number on =
-    subst (λ n. Resolves n false (access plan who inode mask)) on (on_file inode _)
-resolves plan seat who (request.Unlink parent name) number on =
-    subst (λ n. Resolves n false (unlink parent name)) on.0 (on_named_file parent name _ on.1)
-resolves plan seat who (request.Rmdir parent name) number on =
-    subst (λ n. Resolves n false (rmdir parent name)) on.0 (on_named_file parent name _ on.1)
-resolves plan seat who (request.Link inode newparent newname) number on =
-    subst (λ n. Resolves n false (link plan inode newparent newname)) on.0 (on_link plan inode newparent newname on.1)
-resolves plan seat who (request.Rename olddir oldname newdir newname flags) number on =
-    subst (λ n. Resolves n false (rename olddir oldname newdir newname flags)) on.0
-    (on_rename olddir oldname newdir newname flags on.1 on.2)
-resolves plan seat who (request.SetAttr inode handle valid attr) number on =
-    subst (λ n. Resolves n false (setattr plan seat inode handle valid attr)) on.0
-    (on_setattr plan seat inode handle valid attr on.1)
-resolves plan seat who (request.SyncFs inode) number on =
-    subst (λ n. Resolves n false (syncfs plan inode)) on (on_syncfs plan inode)
-resolves plan seat who what number on = absurd on
+resolves plan seat who (request.Create parent name mode kill flags umask ext) number it =
+    subst (λ n. Resolves n false (tree_of plan seat who (request.Create parent name mode kill flags umask ext))) it.0
+    (on_create plan seat who parent name mode kill flags umask ext it.1)
+resolves plan seat who (request.Mkdir parent name mode umask ext) number it =
+    let object = object_asked who parent name ext in
+    subst (λ n. Resolves n false (begin (make_named plan seat object (Directory mode)))) it.0
+    (on_made plan seat object (Directory mode) it.1 refl)
+resolves plan seat who (request.Mknod parent name mode rdev umask ext) number it =
+    let object = object_asked who parent name ext in
+    subst (λ n. Resolves n false (begin (make_named plan seat object (Node mode rdev)))) it.0
+    (on_made plan seat object (Node mode rdev) it.1 refl)
+resolves plan seat who (request.Symlink target parent name ext) number it =
+    let object = object_asked who parent name ext in
+    subst (λ n. Resolves n false (begin (make_named plan seat object (Link target)))) it.0
+    (on_made plan seat object (Link target) it.1 it.2)
+resolves plan seat who (request.Readlink inode) number it =
+    subst (λ n. Resolves n false (begin (readlink inode))) it (on_file inode _)
+resolves plan seat who (request.StatFs inode) number it =
+    subst (λ n. Resolves n false (begin (statfs inode))) it (on_file inode _)
+resolves plan seat who (request.GetAttr inode) number it =
+    subst (λ n. Resolves n false (begin (getattr plan inode))) it (on_file inode _)
+resolves plan seat who (request.Access inode mask) number it =
+    subst (λ n. Resolves n false (begin (access plan who inode mask))) it (on_file inode _)
+resolves plan seat who (request.Unlink parent name) number it =
+    subst (λ n. Resolves n false (begin (unlink parent name))) it.0 (on_named_file parent name _ it.1)
+resolves plan seat who (request.Rmdir parent name) number it =
+    subst (λ n. Resolves n false (begin (rmdir parent name))) it.0 (on_named_file parent name _ it.1)
+resolves plan seat who (request.Link inode newparent newname) number it =
+    subst (λ n. Resolves n false (begin (link plan inode newparent newname))) it.0
+    (on_link plan inode newparent newname it.1)
+resolves plan seat who (request.Rename olddir oldname newdir newname flags) number it =
+    subst (λ n. Resolves n false (begin (rename olddir oldname newdir newname flags))) it.0
+    (on_rename olddir oldname newdir newname flags it.1 it.2)
+resolves plan seat who (request.SetAttr inode handle valid attr) number it =
+    subst (λ n. Resolves n false (begin (setattr plan seat inode handle valid attr))) it.0
+    (on_setattr plan seat inode handle valid attr it.1)
+resolves plan seat who (request.SyncFs inode) number it =
+    subst (λ n. Resolves n false (begin (syncfs plan inode))) it (on_syncfs plan inode)
+resolves plan seat who what number it = absurd it
 
 -- each step of a job is made while the number is gone
 record Gone (number : ℕ) (step : Step) : Type 0 where
@@ -384,8 +413,9 @@ pub gone_answered_law : (limit job : ℕ) (plan : Plan) (seat : HostSeat) (who :
     inserted number later ≡ 0 → IsOn number what → Belongs (grammar_of plan seat who what) (steps_of job later) end →
     (end ≡ finish.Answer (answer.Refused ebadf)) ⊎ IsGivenUp end
     ⊎ EndsBefore plan seat what (steps_of job later) end
-gone_answered_law limit job plan seat who what turns later was now number end r none k i on b =
-    let s = resolves plan seat who what number on in
+unfolding on go_on
+gone_answered_law limit job plan seat who what turns later was now number end r none k i it b =
+    let s = resolves plan seat who what number it in
     ends_so what (first (steps_of job later) refl (drops_before plan seat what) s.0 s.1
     (subst (λ tree. Belongs (grammar_of_tree seat tree) (steps_of job later) end) s.2 b))
   where
@@ -407,17 +437,17 @@ gone_answered_law limit job plan seat who what turns later was now number end r 
         Belongs (framed seat (resolve number next) holds marks) steps end → Answers end
     second one [] holds marks next e b = absurd b
     second one (step ∷ steps) holds marks next e b = let g = at one step steps e in
-        resolved seat holds marks number (on_resolved next) g.t g.t' step steps end g.none refl g.go b
+        resolved seat holds marks number (on resolved_in next) g.t g.t' step steps end g.none (gone_refused next) g.go b
 
     -- behind the call that drops the capability
     dropped_on : (rest : RequestTree) (marks : List ℕ) (told : ActReply) (steps : List Step) →
-        Belongs (framed_follows seat (allocates (on_set rest told)) 0
-        (opened (hold.Dropped fsetid) told []) (framed seat (on_set rest told)
+        Belongs (framed_follows seat (allocates (on ok_in (λ done. rest) told)) 0
+        (opened (hold.Dropped fsetid) told []) (framed seat (on ok_in (λ done. rest) told)
         (opened (hold.Dropped fsetid) told []) marks)) steps end → IsGivenUp end
-        ⊎ Belongs (framed seat (on_set rest told) (opened (hold.Dropped fsetid) told []) marks) steps end
+        ⊎ Belongs (framed seat (on ok_in (λ done. rest) told) (opened (hold.Dropped fsetid) told []) marks) steps end
     dropped_on rest marks told steps b =
-        follows_plain seat (allocates (on_set rest told)) 0 (opened (hold.Dropped fsetid) told [])
-        (framed seat (on_set rest told) (opened (hold.Dropped fsetid) told []) marks) steps end refl b
+        follows_plain seat (allocates (on ok_in (λ done. rest) told)) 0 (opened (hold.Dropped fsetid) told [])
+        (framed seat (on ok_in (λ done. rest) told) (opened (hold.Dropped fsetid) told []) marks) steps end refl b
 
     scoped : (dropped : Bool) (one : List Step) (steps : List Step) (marks : List ℕ)
         (next : Resolved → RequestTree) → steps_of job later ≡ one ++ steps →
@@ -430,8 +460,8 @@ gone_answered_law limit job plan seat who what turns later was now number end r 
         elim (drop_told step g.t g.t' b.0 g.go) [
           | done got is ↦ elim (dropped_on (resolve number next) marks (Host (host.Ok got)) steps (moved is b.1)) [
             | inl up ↦ inl (inr up)
-            | inr on ↦ inl (second (one ++ step ∷ []) steps (hold.Dropped fsetid ∷ []) marks next
-                (e ∙ sym (append_assoc one (step ∷ []) steps)) on)
+            | inr more ↦ inl (second (one ++ step ∷ []) steps (hold.Dropped fsetid ∷ []) marks next
+                (e ∙ sym (append_assoc one (step ∷ []) steps)) more)
           ]
           | fails errno f (inl is) ↦ told_so one steps step errno e f
               (dropped_on (resolve number next) marks (Host (host.Refused errno)) steps (moved is b.1))
@@ -443,15 +473,15 @@ gone_answered_law limit job plan seat who what turns later was now number end r 
         ]
       where
         moved : {told other : ActReply} → told ≡ other →
-            Belongs (framed_follows seat (allocates (on_set (resolve number next) told)) 0
-            (opened (hold.Dropped fsetid) told []) (framed seat (on_set (resolve number next) told)
+            Belongs (framed_follows seat (allocates (on ok_in (λ done. resolve number next) told)) 0
+            (opened (hold.Dropped fsetid) told []) (framed seat (on ok_in (λ done. resolve number next) told)
             (opened (hold.Dropped fsetid) told []) marks)) steps end →
-            Belongs (framed_follows seat (allocates (on_set (resolve number next) other)) 0
-            (opened (hold.Dropped fsetid) other []) (framed seat (on_set (resolve number next) other)
+            Belongs (framed_follows seat (allocates (on ok_in (λ done. resolve number next) other)) 0
+            (opened (hold.Dropped fsetid) other []) (framed seat (on ok_in (λ done. resolve number next) other)
             (opened (hold.Dropped fsetid) other []) marks)) steps end
         moved is x = subst (λ (told : ActReply).
-            Belongs (framed_follows seat (allocates (on_set (resolve number next) told)) 0
-            (opened (hold.Dropped fsetid) told []) (framed seat (on_set (resolve number next) told)
+            Belongs (framed_follows seat (allocates (on ok_in (λ done. resolve number next) told)) 0
+            (opened (hold.Dropped fsetid) told []) (framed seat (on ok_in (λ done. resolve number next) told)
             (opened (hold.Dropped fsetid) told []) marks)) steps end) is x
 
         told_so : (one steps : List Step) (step : Step) (errno : Errno) → steps_of job later ≡ one ++ step ∷ steps →
@@ -459,8 +489,8 @@ gone_answered_law limit job plan seat who what turns later was now number end r 
             IsGivenUp end ⊎ Belongs (leave seat [] (finish.Answer (answer.Refused errno))) steps end →
             EndsRefused (steps_of job later) end true
         told_so one steps step errno e f (inl up) = inl (inr up)
-        told_so one steps step errno e f (inr on) =
-            elim (end_leave seat [] (finish.Answer (answer.Refused errno)) steps end on).0 [
+        told_so one steps step errno e f (inr more) =
+            elim (end_leave seat [] (finish.Answer (answer.Refused errno)) steps end more).0 [
               | inl is ↦ inr (
                 errno,
                 refl,
@@ -473,7 +503,7 @@ gone_answered_law limit job plan seat who what turns later was now number end r 
 
         out_so : IsGivenUp end ⊎ Belongs (leave seat [] (finish.Answer answer.NoMemory)) steps end → IsGivenUp end
         out_so (inl up) = up
-        out_so (inr on) = ended_up end (end_leave seat [] (finish.Answer answer.NoMemory) steps end on).0
+        out_so (inr more) = ended_up end (end_leave seat [] (finish.Answer answer.NoMemory) steps end more).0
 
     inside : (dropped wraps : Bool) (one : List Step) (steps : List Step) (next : Resolved → RequestTree) →
         steps_of job later ≡ one ++ steps →
@@ -495,9 +525,9 @@ gone_answered_law limit job plan seat who what turns later was now number end r 
         let told : step.reply ≡ Event (event.Began n.0 n.1) = h.1 ∙ ap Event n.2 in
         let asks : BegunSession → RequestTree =
         λ session. bracketed wraps (without_fsetid dropped (resolve number (next session))) in
-        elim (follows seat (Changes change.Begin) (on_began asks) [] [] step steps end
+        elim (follows seat (Changes change.Begin) (on began_in asks) [] [] step steps end
         (ap (closings_in (Changes change.Begin)) told) (ap (λ r. held (Changes change.Begin) r []) told) b) [
           | inl up ↦ inl (inr up)
-          | inr on ↦ inside dropped wraps (step ∷ []) steps (next (session_of n.0 n.1)) e
-              (subst (λ r. Belongs (framed seat (on_began asks r) [] []) steps end) told on)
+          | inr more ↦ inside dropped wraps (step ∷ []) steps (next (session_of n.0 n.1)) e
+              (subst (λ r. Belongs (framed seat (on began_in asks r) [] []) steps end) told more)
         ]

@@ -1,5 +1,5 @@
 -- The identity of whoever asks is taken on a scope at a time, and each can be put back. After credentials(7).
-use Rattle.std.proofs.Common.{◌≡◌, ◌≢◌, ⊎_elim, inr, ℕ, Bool, true, false, ◌==◌, ◌&&◌, cond, List, [], ◌∷◌, ◌++◌}
+use Rattle.std.proofs.Common.{◌≡◌, ◌≢◌, ⊎_elim, inr, ℕ, Bool, true, false, ◌==◌, ◌&&◌, cond, List, [], ◌∷◌}
 use Rattle.std.proofs.Common.{length, Option, Some, None, is_some, refl, sym, ap, subst, ◌∙◌, ne_eqb}
 use Rattle.std.proofs.Common.{eq-eqb, le-leb, ◌≤◌, ◌<◌}
 use Rattle.std.specs.Prelude.{nat_le}
@@ -14,16 +14,15 @@ use Rattle.pt_host.specs.declared.op.KeptHostOp.TheVariants as call
 use Rattle.pt_host.specs.declared.reply.HostReply.TheVariants as host
 use Rattle.pt_host.specs.declared.reply.HostValue.{HostValue}
 use Rattle.pt_host.specs.declared.seat.HostSeat.{HostSeat}
-use Rattle.pt_creds.specs.Guard.{euid_calls, egid_calls}
 use Rattle.pt_creds.specs.Identity.{Credentials, IsWhole, id_under, groups_under, override_cap}
-use Rattle.pt_creds.specs.Steps.{id_to_set, cred_steps, calls_of, group_calls, raise_calls}
+use Rattle.pt_creds.specs.Steps.{id_to_set, cred_steps}
 use Rattle.pt_creds.proofs.Seats.{absorbed, raised_again, IdCase, IdCase.{left, kept, other}, id_case, own_taken}
 use Rattle.pt_frame.specs.Deed.{Calls}
 use Rattle.pt_frame.specs.Held.{opened}
 use Rattle.pt_frame.specs.Past.{KeepsGroups}
 use Rattle.pt_frame.specs.Seats.{seat_by}
 use Rattle.pt_frame.specs.Tended.{is_seats_sort, is_of_seat}
-use Rattle.pt_frame.specs.Tree.{RequestTree, Asks, Bares}
+use Rattle.pt_frame.specs.Tree.{RequestTree, Asks, Bares, on, go_on}
 use Rattle.pt_frame.specs.declared.act.ActReply.{ActReply}
 use Rattle.pt_frame.specs.declared.act.ActReply.TheVariants.{Event, Host, NoCopy}
 use Rattle.pt_frame.specs.declared.hold.Hold.{Hold}
@@ -33,8 +32,8 @@ use Rattle.pt_law.specs.Under.{Identity, identity_of, Role, makes_object, IsMade
 use Rattle.pt_law.specs.Wearing.{Unwinds, Seats}
 use Rattle.pt_law.proofs.Wearing.{deed_leaves}
 use Rattle.pt_host.specs.Sorts.{sort_of}
-use Rattle.pt_req.specs.Asker.{taken_on}
-use Rattle.pt_req.specs.Steps.{open_scope, on_set, on_tried}
+use Rattle.pt_req.specs.Asker.{cap_raised, egid_set, euid_set, group_set, taken_on}
+use Rattle.pt_req.specs.Steps.{open_scope, ok_in, tried_in}
 
 -- as whom a call is made under these credentials
 abbrev pub identity_under : Credentials → HostSeat → Identity
@@ -239,10 +238,12 @@ pub opens_so : (role : Role) (seat now : HostSeat) (scopes : List Hold) (asked :
     ((got : HostValue) → SeatAnswers now (Some (Calls asked)) (Host (host.Ok got)) →
     Seats role seat next (scope ∷ scopes) (seat_by now (Some (Calls asked)) (Host (host.Ok got)))) →
     Seats role seat (open_scope asked scope next) scopes now
+unfolding on go_on
 opens_so role seat now scopes asked scope next own un k = (un, own, go)
   where
     go : (told : ActReply) → MayBeTold (Calls asked) told → SeatAnswers now (Some (Calls asked)) told →
-        Seats role seat (on_set next told) (opened scope told scopes) (seat_by now (Some (Calls asked)) told)
+        Seats role seat (on ok_in (λ done. next) told) (opened scope told scopes)
+        (seat_by now (Some (Calls asked)) told)
     go (Host (host.Ok got)) m a = k got a
     go (Host (host.Refused errno)) m a = un
     go (Host (host.Fault errno)) m a = un
@@ -269,13 +270,18 @@ module _
     (who : Identity)
     (k : SeatsGuised role seat tree who)
   where
+    abbrev uid_set : ℕ → Bool → RequestTree
+    uid_set uid keeps =
+        euid_set (id_to_set uid seat.eff_uid) (cap_raised (keeps && is_some (id_to_set uid seat.eff_uid)) tree)
+
     opens_uid : (uid : ℕ) (keeps : Bool) (scopes : List Hold) (now : HostSeat) → Unwinds seat scopes now →
         LikeUid seat now → TakesUid seat now uid → who.uid ≡ id_under now.real_uid uid now.eff_uid →
         now.eff_gid ≡ who.gid → now.groups ≡ who.groups → now.umask ≡ who.umask →
-        Seats role seat (taken_on (euid_calls (Some uid) ++ raise_calls (keeps && true)) tree) scopes now
+        Seats role seat (euid_set (Some uid) (cap_raised (keeps && true) tree)) scopes now
+    unfolding on go_on
     opens_uid uid keeps scopes now un like taken u g l m =
         opens_so role seat now scopes (call.SetEuid uid) hold.EffectiveUid
-        (taken_on (raise_calls (keeps && true)) tree) refl un (λ got a. under keeps)
+        (cap_raised (keeps && true) tree) refl un (λ got a. under keeps)
       where
         later : HostSeat
         later = with_euid now uid
@@ -290,7 +296,7 @@ module _
         same = are_one later who (taken.is ∙ sym u) (taken.gid ∙ g) (taken.groups ∙ l) (taken.umask ∙ m)
 
         raised : (told : ActReply) → SeatAnswers later (Some (Calls (call.RaiseCap override_cap))) told →
-            Seats role seat (on_tried tree told) (hold.EffectiveUid ∷ scopes)
+            Seats role seat (on tried_in (λ done. tree) told) (hold.EffectiveUid ∷ scopes)
             (seat_by later (Some (Calls (call.RaiseCap override_cap))) told)
         raised (Host (host.Ok got)) a = k (hold.EffectiveUid ∷ scopes) (with_raised later override_cap)
             (refl, owed, subst (λ (z : HostSeat). Unwinds seat scopes z) (sym (taken.raised override_cap a.0)) un) same
@@ -301,7 +307,7 @@ module _
         raised NoCopy a = back
 
         under : (keeps : Bool) →
-            Seats role seat (taken_on (raise_calls (keeps && true)) tree) (hold.EffectiveUid ∷ scopes) later
+            Seats role seat (cap_raised (keeps && true) tree) (hold.EffectiveUid ∷ scopes) later
         under true = (back, tt, λ told m a. (inr refl, raised told a))
         under false = k (hold.EffectiveUid ∷ scopes) later back same
 
@@ -309,14 +315,13 @@ module _
         LikeUid seat now → who.uid ≡ id_under seat.real_uid uid seat.eff_uid →
         now.eff_gid ≡ who.gid → now.groups ≡ who.groups → now.umask ≡ who.umask →
         IdCase seat.real_uid uid seat.eff_uid →
-        Seats role seat (taken_on (euid_calls (id_to_set uid seat.eff_uid)
-        ++ raise_calls (keeps && is_some (id_to_set uid seat.eff_uid))) tree) scopes now
+        Seats role seat (uid_set uid keeps) scopes now
     on_uid uid keeps scopes now un like u g l m (left none same) =
-        subst (λ (o : Option ℕ). Seats role seat (taken_on (euid_calls o ++ raise_calls (keeps && is_some o)) tree)
+        subst (λ (o : Option ℕ). Seats role seat (euid_set o (cap_raised (keeps && is_some o) tree))
         scopes now) (sym none) (go keeps)
       where
         go : (keeps : Bool) →
-            Seats role seat (taken_on (euid_calls None ++ raise_calls (keeps && false)) tree) scopes now
+            Seats role seat (euid_set None (cap_raised (keeps && false) tree)) scopes now
         go true = k scopes now un (are_one now who (like.eff ∙ sym same ∙ sym u) g l m)
         go false = k scopes now un (are_one now who (like.eff ∙ sym same ∙ sym u) g l m)
     on_uid uid keeps scopes now un like u g l m (kept some leaves same) =
@@ -324,13 +329,13 @@ module _
         ap (λ t. cond t now (with_uid_caps now uid (caps_as now uid))) (ap (λ r. leaves_id r uid) like.real ∙ leaves) in
         let is : id_under now.real_uid uid now.eff_uid ≡ id_under seat.real_uid uid seat.eff_uid =
         (λ i. id_under (like.real i) uid (like.eff i)) in
-        subst (λ (o : Option ℕ). Seats role seat (taken_on (euid_calls o ++ raise_calls (keeps && is_some o)) tree)
+        subst (λ (o : Option ℕ). Seats role seat (euid_set o (cap_raised (keeps && is_some o) tree))
         scopes now) (sym some) (opens_uid uid keeps scopes now un like
         (taken_kept seat now uid whole like e (is ∙ same ∙ sym like.eff)) (u ∙ sym is) g l m)
     on_uid uid keeps scopes now un like u g l m (other some names same no_root) =
         let is : id_under now.real_uid uid now.eff_uid ≡ id_under seat.real_uid uid seat.eff_uid =
         (λ i. id_under (like.real i) uid (like.eff i)) in
-        subst (λ (o : Option ℕ). Seats role seat (taken_on (euid_calls o ++ raise_calls (keeps && is_some o)) tree)
+        subst (λ (o : Option ℕ). Seats role seat (euid_set o (cap_raised (keeps && is_some o) tree))
         scopes now) (sym some) (opens_uid uid keeps scopes now un like
         (taken_other seat now uid whole like (ap (λ r. leaves_id r uid) like.real ∙ names) (is ∙ same) no_root)
         (u ∙ sym is) g l m)
@@ -340,12 +345,10 @@ module _
         LikeUid seat now → now.real_gid ≡ seat.real_gid → TakesGid seat now gid →
         who.uid ≡ id_under seat.real_uid uid seat.eff_uid → id_under now.real_gid gid now.eff_gid ≡ who.gid →
         now.groups ≡ who.groups → now.umask ≡ who.umask →
-        Seats role seat (taken_on (egid_calls (Some gid) ++ euid_calls (id_to_set uid seat.eff_uid)
-        ++ raise_calls (keeps && is_some (id_to_set uid seat.eff_uid))) tree) scopes now
+        Seats role seat (egid_set (Some gid) (uid_set uid keeps)) scopes now
     opens_gid uid gid keeps scopes now un like real taken u g l m =
         opens_so role seat now scopes (call.SetEgid gid) hold.EffectiveGid
-        (taken_on (euid_calls (id_to_set uid seat.eff_uid)
-        ++ raise_calls (keeps && is_some (id_to_set uid seat.eff_uid))) tree) refl un
+        (uid_set uid keeps) refl un
         (λ got a. on_uid uid keeps (hold.EffectiveGid ∷ scopes) later
         (refl, owed, subst (λ (z : HostSeat). Unwinds seat scopes z) (sym taken.back) un) like_later u (taken.is ∙ g)
         (taken.groups ∙ l) (taken.umask ∙ m) (id_case seat.real_uid uid seat.eff_uid))
@@ -368,26 +371,22 @@ module _
         LikeUid seat now → now.real_gid ≡ seat.real_gid → now.eff_gid ≡ seat.eff_gid →
         who.uid ≡ id_under seat.real_uid uid seat.eff_uid → who.gid ≡ id_under seat.real_gid gid seat.eff_gid →
         now.groups ≡ who.groups → now.umask ≡ who.umask → IdCase seat.real_gid gid seat.eff_gid →
-        Seats role seat (taken_on (egid_calls (id_to_set gid seat.eff_gid) ++ euid_calls (id_to_set uid seat.eff_uid)
-        ++ raise_calls (keeps && is_some (id_to_set uid seat.eff_uid))) tree) scopes now
+        Seats role seat (egid_set (id_to_set gid seat.eff_gid) (uid_set uid keeps)) scopes now
     on_gid uid gid keeps scopes now un like real at u g l m (left none same) =
-        subst (λ (o : Option ℕ). Seats role seat (taken_on (egid_calls o ++ euid_calls (id_to_set uid seat.eff_uid)
-        ++ raise_calls (keeps && is_some (id_to_set uid seat.eff_uid))) tree) scopes now) (sym none)
+        subst (λ (o : Option ℕ). Seats role seat (egid_set o (uid_set uid keeps)) scopes now) (sym none)
         (on_uid uid keeps scopes now un like u (at ∙ sym same ∙ sym g) l m (id_case seat.real_uid uid seat.eff_uid))
     on_gid uid gid keeps scopes now un like real at u g l m (kept some leaves same) =
         let e : with_egid now gid ≡ now =
         ap (λ t. cond t now (with_gid_of now gid)) (ap (λ r. leaves_id r gid) real ∙ leaves) in
         let is : id_under now.real_gid gid now.eff_gid ≡ id_under seat.real_gid gid seat.eff_gid =
         (λ i. id_under (real i) gid (at i)) in
-        subst (λ (o : Option ℕ). Seats role seat (taken_on (egid_calls o ++ euid_calls (id_to_set uid seat.eff_uid)
-        ++ raise_calls (keeps && is_some (id_to_set uid seat.eff_uid))) tree) scopes now) (sym some)
+        subst (λ (o : Option ℕ). Seats role seat (egid_set o (uid_set uid keeps)) scopes now) (sym some)
         (opens_gid uid gid keeps scopes now un like real
         (gid_kept seat now gid (whole.eff_gid ∙ sym real) at e (is ∙ same ∙ sym at)) u (is ∙ sym g) l m)
     on_gid uid gid keeps scopes now un like real at u g l m (other some names same no_root) =
         let is : id_under now.real_gid gid now.eff_gid ≡ id_under seat.real_gid gid seat.eff_gid =
         (λ i. id_under (real i) gid (at i)) in
-        subst (λ (o : Option ℕ). Seats role seat (taken_on (egid_calls o ++ euid_calls (id_to_set uid seat.eff_uid)
-        ++ raise_calls (keeps && is_some (id_to_set uid seat.eff_uid))) tree) scopes now) (sym some)
+        subst (λ (o : Option ℕ). Seats role seat (egid_set o (uid_set uid keeps)) scopes now) (sym some)
         (opens_gid uid gid keeps scopes now un like real
         (gid_other seat now gid (whole.eff_gid ∙ sym real) at (ap (λ r. leaves_id r gid) real ∙ names) (is ∙ same)) u
         (is ∙ sym g) l m)
@@ -396,9 +395,7 @@ module _
     on_groups : (uid gid : ℕ) (groups : Option ℕ) (keeps : Bool) → KeepsGroups seat →
         who.uid ≡ id_under seat.real_uid uid seat.eff_uid → who.gid ≡ id_under seat.real_gid gid seat.eff_gid →
         who.groups ≡ groups_under groups seat.groups → seat.umask ≡ who.umask →
-        Seats role seat (taken_on (group_calls groups ++ egid_calls (id_to_set gid seat.eff_gid)
-        ++ euid_calls (id_to_set uid seat.eff_uid)
-        ++ raise_calls (keeps && is_some (id_to_set uid seat.eff_uid))) tree) [] seat
+        Seats role seat (group_set groups (egid_set (id_to_set gid seat.eff_gid) (uid_set uid keeps))) [] seat
     on_groups uid gid None keeps fits u g l m =
         on_gid uid gid keeps [] seat refl like_own refl refl u g (sym l) m (id_case seat.real_gid gid seat.eff_gid)
       where
@@ -406,8 +403,7 @@ module _
         like_own = record { eff = refl; real = refl; caps = refl; permitted = refl }
     on_groups uid gid (Some group) keeps fits u g l m =
         opens_so role seat seat [] (call.SetGroups (group ∷ [])) hold.Groups
-        (taken_on (egid_calls (id_to_set gid seat.eff_gid) ++ euid_calls (id_to_set uid seat.eff_uid)
-        ++ raise_calls (keeps && is_some (id_to_set uid seat.eff_uid))) tree) refl refl
+        (egid_set (id_to_set gid seat.eff_gid) (uid_set uid keeps)) refl refl
         (λ got a. on_gid uid gid keeps (hold.Groups ∷ []) later (refl, owed a.0, refl)
         (record { eff = refl; real = refl; caps = refl; permitted = refl }) refl refl u g (sym l) m
         (id_case seat.real_gid gid seat.eff_gid))
@@ -437,7 +433,7 @@ pub guised : (role : Role) (seat : HostSeat) (creds : Credentials) (making : Cal
     (next : ActReply → RequestTree) → IsWhole seat → KeepsGroups seat → is_of_seat (Calls making) ≡ false →
     makes_object making ≡ true → role.asker ≡ Some (identity_under creds seat) →
     ((told : ActReply) → Seats role seat (next told) [] seat) →
-    Seats role seat (taken_on (calls_of (cred_steps creds seat))
+    Seats role seat (taken_on (cred_steps creds seat)
     (Asks (Calls making) (λ told. Bares (next told)))) [] seat
 guised role seat creds making next whole fits own makes is so =
     on_groups role seat whole (Asks (Calls making) (λ told. Bares (next told)))

@@ -2,7 +2,7 @@
 use Rattle.std.proofs.Common.{◌≡◌, ◌⊎◌, inl, inr, ◌+◌, ◌∷◌, ◌∙◌, [], if◌then◌else◌, ℕ, Bool, List, None, Option, Some}
 use Rattle.std.proofs.Common.{ap, arith, false, refl, subst, sym, true}
 use Rattle.pt_host.specs.Call.{Call}
-use Rattle.pt_host.specs.Errno.{eacces, ebadf}
+use Rattle.pt_host.specs.Errno.{ebadf, einval}
 use Rattle.pt_host.specs.Words.{is}
 use Rattle.pt_host.specs.declared.ids.Errno.{Errno}
 use Rattle.pt_host.specs.declared.ids.Fd.{Fd}
@@ -22,28 +22,31 @@ use Rattle.pt_iface.specs.declared.answer.Answer.{Answer}
 use Rattle.pt_iface.specs.declared.answer.Answer.TheVariants as answer
 use Rattle.pt_frame.specs.Deed.{Calls, Changes, Deed, IsStepOf, Step}
 use Rattle.pt_frame.specs.Replies.{event_refusal, refusal}
-use Rattle.pt_frame.specs.Tree.{allocates, Asks, Bares, Brackets, Gives, Opens, Refuses, RequestTree}
+use Rattle.pt_frame.specs.Tree.{allocates, Asks, Bares, Brackets, Gives, Opens, Refuses, RequestTree, on, go_on}
 use Rattle.pt_frame.specs.Tree.{Shuts}
 use Rattle.pt_frame.specs.declared.act.ActReply.{ActReply}
 use Rattle.pt_frame.specs.declared.act.ActReply.TheVariants.{Event, Host, NoCopy}
 use Rattle.pt_frame.specs.declared.hold.Hold.{Hold}
 use Rattle.pt_frame.specs.declared.hold.Hold.TheVariants as hold
 use Rattle.pt_req.specs.Capability.{drops_fsetid, fsetid, without_fsetid}
-use Rattle.pt_req.specs.Entries.{can_open}
+use Rattle.pt_req.specs.Entries.{can_open, is_bad_name, is_bad_offset}
 use Rattle.pt_req.specs.Options.{cleaned, inode_flags}
 use Rattle.pt_req.specs.Options.{without_nofollow}
-use Rattle.pt_req.specs.Parts.{by_path, file_of, look_up, looked_of, numbered, open_form, open_inode, open_num}
-use Rattle.pt_req.specs.Parts.{root_open}
-use Rattle.pt_req.specs.Steps.{Resolved, begin, clear, draw_handle, draw_node, insert, insert_handle}
-use Rattle.pt_req.specs.Steps.{on_began, on_claim, on_cleared, on_done, on_drawn, on_fd, on_handle, on_inserted}
-use Rattle.pt_req.specs.Steps.{on_resolved, on_root, on_set, on_stat, on_taken}
-use Rattle.pt_req.specs.Steps.{resolve, session_of, stat, take_fd}
+use Rattle.pt_req.specs.Parts.{by_path, file_of, look_up, looked_of, named, numbered, numbered_as, open_form}
+use Rattle.pt_req.specs.Parts.{open_inode, open_num, open_row, placed, root_open}
+use Rattle.pt_req.specs.Steps.{begin, clear, draw_handle, draw_node, insert, insert_handle, resolve, session_of, stat}
+use Rattle.pt_req.specs.Steps.{claimed_in}
+use Rattle.pt_req.specs.Steps.{take_fd, began_in, cleared_in, done_in, drawn_in, fd_in, inserted_in, numbered_in}
+use Rattle.pt_req.specs.Steps.{ok_in, resolved_in, stat_in, taken_in}
+use Rattle.pt_req.specs.declared.replies.Resolved.{Resolved}
 use Rattle.pt_req.specs.declared.begun.BegunSession.{BegunSession}
 use Rattle.pt_req.specs.declared.parts.looked.Looked.{Looked}
 use Rattle.pt_req.specs.declared.plan.Plan.{Plan}
-use Rattle.pt_req.proofs.Replying.{if_began, if_claimed, if_cleared, if_done, if_drawn, if_fd, if_inserted}
-use Rattle.pt_req.proofs.Replying.{if_resolved, if_root, if_set, if_stat, if_taken}
-use Rattle.pt_attr.specs.Requests.{file_by, files_by}
+use Rattle.pt_req.proofs.Replying.{if_began, if_claimed, if_cleared, if_done, if_drawn, if_fd, if_numbered}
+use Rattle.pt_req.proofs.Replying.{if_resolved, if_inserted, if_set, if_stat, if_taken}
+use Rattle.pt_attr.specs.Parts.{file_by, files_by, two_files}
+use Rattle.pt_attr.specs.Requests.{allowed}
+use Rattle.pt_attr.specs.declared.parts.TwoFiles.{TwoFiles}
 use Rattle.pt_attr.specs.Steps.{do_call}
 use Rattle.pt_law.specs.Branch.{Along, GivesUpAfter}
 use Rattle.pt_law.specs.Ledger.{handle_inserted_as, weighed}
@@ -174,6 +177,7 @@ hands_shut handle passes rest so = record { stands = refl; up = so.up; on = so.o
 
 pub inserts_handle : (session : BegunSession) (handle number : ℕ) (fd : Fd) (next : RequestTree) → Hands handle next →
     Yields (insert_handle session handle number fd next)
+unfolding on go_on
 inserts_handle session handle number fd next so = record { on = go; up = up }
   where
     asked : Deed
@@ -181,7 +185,7 @@ inserts_handle session handle number fd next so = record { on = go; up = up }
 
     -- by a reply that may come
     replied : (told : ActReply) (path : List Step) (last : Answer) → MayBeTold asked told → AllMayBeTold path →
-        Along (on_handle next told) path last → (h : ℕ) →
+        Along (on inserted_in (λ done. next) told) path last → (h : ℕ) →
         weighed (handle_inserted_as h) (Some asked) told + handles_in h path ≡ handle_count h last
     replied (Event (event.Inserted given)) path last may m a h =
         let inserting = change.InsertHandle session.era handle number fd in
@@ -192,7 +196,7 @@ inserts_handle session handle number fd next so = record { on = go; up = up }
     replied told path last may m a h = let k = (refuses told).on path last m a h in omega (arith, k)
 
     at : (did : Option Deed) (told : ActReply) (path : List Step) (last : Answer) → IsStepOf asked did told →
-        StepMayBeTold did told → AllMayBeTold path → Along (on_handle next told) path last → (h : ℕ) →
+        StepMayBeTold did told → AllMayBeTold path → Along (on inserted_in (λ done. next) told) path last → (h : ℕ) →
         weighed (handle_inserted_as h) did told + handles_in h path ≡ handle_count h last
     at None told path last i may m a h = absurd (uncopied told i)
       where
@@ -208,7 +212,8 @@ inserts_handle session handle number fd next so = record { on = go; up = up }
         ∙ replied told path last (subst (λ (d : Deed). MayBeTold d told) i may) m a h
 
     replied_up : (told : ActReply) (path : List Step) →
-        ((path ≡ []) × (allocates (on_handle next told) ≡ true)) ⊎ GivesUpAfter (on_handle next told) path →
+        ((path ≡ []) × (allocates (on inserted_in (λ done. next) told) ≡ true))
+        ⊎ GivesUpAfter (on inserted_in (λ done. next) told) path →
         (h : ℕ) → weighed (handle_inserted_as h) (Some asked) told + handles_in h path ≡ 0
     replied_up (Event (event.Inserted given)) path (inl now) h =
         let may : allocates next ≡ true = now.1 in let none = so.stands in absurd (cc)
@@ -217,7 +222,8 @@ inserts_handle session handle number fd next so = record { on = go; up = up }
     replied_up told path (inr later) h = absurd later
 
     at_up : (did : Option Deed) (told : ActReply) (path : List Step) → IsStepOf asked did told →
-        ((path ≡ []) × (allocates (on_handle next told) ≡ true)) ⊎ GivesUpAfter (on_handle next told) path →
+        ((path ≡ []) × (allocates (on inserted_in (λ done. next) told) ≡ true))
+        ⊎ GivesUpAfter (on inserted_in (λ done. next) told) path →
         (h : ℕ) → weighed (handle_inserted_as h) did told + handles_in h path ≡ 0
     at_up None told path i g h = absurd (uncopied told i)
       where
@@ -248,34 +254,35 @@ P told tree = Yields tree
 
 pub begins : (next : BegunSession → RequestTree) → ((session : BegunSession) → Yields (next session)) →
     Yields (begin next)
-begins next so = asks (Changes change.Begin) (on_began next) (λ h told. refl)
+begins next so = asks (Changes change.Begin) (on began_in next) (λ h told. refl)
     (if_began P next refuses (λ era agreed. so (session_of era agreed)))
 
 pub clears : (next : ℕ → RequestTree) → ((era : ℕ) → Yields (next era)) → Yields (clear next)
-clears next so = asks (Changes change.Clear) (on_cleared next) (λ h told. refl)
+clears next so = asks (Changes change.Clear) (on cleared_in next) (λ h told. refl)
     (if_cleared P next refuses (λ era closings. so era))
 
 pub resolves : (number : ℕ) (next : Resolved → RequestTree) → ((row : Resolved) → Yields (next row)) →
     Yields (resolve number next)
-resolves number next so = asks (Changes (change.Resolve number)) (on_resolved next) (λ h told. refl)
+resolves number next so = asks (Changes (change.Resolve number)) (on resolved_in next) (λ h told. refl)
     (if_resolved P next refuses (λ row form ids mode.
     so (record { row = row; form = form; ids = ids; mode = mode })))
 
 pub calls_fd : (asked : Call) (next : Fd → RequestTree) → ((fd : Fd) → Yields (next fd)) →
-    Yields (Asks (Calls asked) (on_fd next))
-calls_fd asked next so = asks (Calls asked) (on_fd next) (λ h told. refl) (if_fd P next refuses so)
+    Yields (Asks (Calls asked) (on fd_in next))
+calls_fd asked next so = asks (Calls asked) (on fd_in next) (λ h told. refl) (if_fd P next refuses so)
 
 pub stats : (fd : Fd) (next : Stat → RequestTree) → ((told : Stat) → Yields (next told)) → Yields (stat fd next)
-stats fd next so = asks (Calls (call.Stat fd)) (on_stat next) (λ h told. refl) (if_stat P next refuses so)
+stats fd next so = asks (Calls (call.Stat fd)) (on stat_in next) (λ h told. refl) (if_stat P next refuses so)
 
 pub takes : (next : RequestTree) → Yields next → Yields (take_fd next)
-takes next so = asks (Changes change.TakeFd) (on_taken next) (λ h told. refl) (if_taken P next refuses so)
+takes next so = asks (Changes change.TakeFd) (on taken_in (λ done. next)) (λ h told. refl) (if_taken P next refuses so)
 
 pub draws_handle : (next : ℕ → RequestTree) → ((handle : ℕ) → Yields (next handle)) → Yields (draw_handle next)
-draws_handle next so = asks (Changes change.DrawHandle) (on_drawn next) (λ h told. refl) (if_drawn P next refuses so)
+draws_handle next so = asks (Changes change.DrawHandle) (on drawn_in next) (λ h told. refl) (if_drawn P next refuses so)
 
-pub dones : (deed : Deed) (next : RequestTree) → InsertsNone deed → Yields next → Yields (Asks deed (on_done next))
-dones deed next spares so = asks deed (on_done next) spares (if_done P next refuses (λ closings. so))
+pub dones : (deed : Deed) (next : RequestTree) → InsertsNone deed → Yields next →
+    Yields (Asks deed (on done_in (λ done. next)))
+dones deed next spares so = asks deed (on done_in (λ done. next)) spares (if_done P next refuses (λ closings. so))
 
 pub checks : (bad : Bool) (one next : RequestTree) → Yields one → Yields next → Yields (if bad then one else next)
 checks true one next so other = so
@@ -287,20 +294,21 @@ refuses_so errno = gives (answer.Refused errno) (λ h. refl)
 pub files : (form : RowForm) (next : Fd → RequestTree) → ((fd : Fd) → Yields (next fd)) → Yields (file_of form next)
 files (File fd) next so = so fd
 
-pub both_files : (first second : ℕ) (next : Fd → Fd → RequestTree) → ((from to : Fd) → Yields (next from to)) →
+pub both_files : (first second : ℕ) (next : TwoFiles → RequestTree) → ((both : TwoFiles) → Yields (next both)) →
     Yields (files_by first second next)
+unfolding files_by
 both_files first second next so =
     resolves first _ (λ one.
     resolves second _ (λ other.
     files one.form _ (λ from.
-    files other.form _ (λ to. so from to))))
+    files other.form _ (λ to. so (two_files from to)))))
 
 pub does : (asked : Call) (next : RequestTree) → Yields next → Yields (do_call asked next)
-does asked next so = asks (Calls asked) (on_set next) (λ h told. refl) (if_set P next refuses (λ told. so))
+does asked next so = asks (Calls asked) (on ok_in (λ done. next)) (λ h told. refl) (if_set P next refuses (λ told. so))
 
-pub decides : (granted : Bool) → Yields (Gives (if granted then answer.Done else answer.Refused eacces))
+pub decides : (granted : Bool) → Yields (Gives (allowed granted))
 decides true = gives answer.Done (λ h. refl)
-decides false = refuses_so eacces
+decides false = gives (allowed false) (λ h. refl)
 
 pub one_file : (number : ℕ) (next : Fd → RequestTree) → ((fd : Fd) → Yields (next fd)) → Yields (file_by number next)
 one_file number next so = resolves number _ (λ row. files row.form next so)
@@ -309,17 +317,18 @@ pub numbers : (session : BegunSession) (form : RowForm) (told : Stat) (next : �
     ((number : ℕ) → Yields (next number)) → Yields (numbered session form told next)
 numbers session form told next so =
     let adds : ℕ → RequestTree = λ fresh. insert session fresh form told next in
-    asks (Changes (change.Claim session.era None told.ids)) (on_claim next (take_fd (draw_node adds)))
-    (λ h told. refl)
-    (if_claimed P next (take_fd (draw_node adds)) refuses so (
+    let by : Option ℕ → RequestTree = λ given. numbered_as session form told given next in
+    asks (Changes (change.Claim session.era None told.ids)) (on claimed_in by) (λ h told. refl)
+    (if_claimed P by refuses so (
     takes (draw_node adds) (
-    asks (Changes change.DrawNode) (on_drawn adds) (λ h told. refl) (
+    asks (Changes change.DrawNode) (on drawn_in adds) (λ h told. refl) (
     if_drawn P adds refuses (λ fresh.
-    asks (Changes (change.Insert session.era fresh form told.ids told.mode)) (on_inserted next) (λ h told. refl)
-    (if_inserted P next refuses so so))))))
+    asks (Changes (change.Insert session.era fresh form told.ids told.mode)) (on numbered_in next) (λ h told. refl)
+    (if_numbered P next refuses so so))))))
 
 pub looks_up : (plan : Plan) (session : BegunSession) (parent : ℕ) (name : List ℕ) (next : Looked → RequestTree) →
     ((looked : Looked) → Yields (next looked)) → Yields (look_up plan session parent name next)
+unfolding look_up
 looks_up plan session parent name next so =
     brackets _ (
     resolves parent _ (λ directory.
@@ -327,7 +336,16 @@ looks_up plan session parent name next so =
     calls_fd (call.OpenAt dir name by_path 0) _ (λ fd.
     stats fd _ (λ told.
     numbers session (File fd) told _ (λ number.
-    shuts true _ (so (looked_of plan session directory.ids told (File fd) number))))))))
+    shuts true _ (so (looked_of plan session directory.ids told number))))))))
+
+-- a name that is none, an offset that is none
+pub names : (name : List ℕ) (next : RequestTree) → Yields next → Yields (named name next)
+unfolding named
+names name next so = checks (is_bad_name name) (Gives (answer.Refused einval)) next (refuses_so einval) so
+
+pub places : (offset : ℕ) (next : RequestTree) → Yields next → Yields (placed offset next)
+unfolding placed
+places offset next so = checks (is_bad_offset offset) (Gives (answer.Refused einval)) next (refuses_so einval) so
 
 -- a handle is drawn, takes its slot and is inserted, for what was opened
 pub gets_handle : (session : BegunSession) (number : ℕ) (fd : Fd) (next : ℕ → RequestTree) →
@@ -342,8 +360,8 @@ pub reopens : (form : RowForm) (flags : ℕ) (next : Fd → RequestTree) → ((f
 reopens (File fd) flags next so = calls_fd (call.Reopen fd (without_nofollow flags)) next so
 
 pub sets_on : (asked : Call) (scope : Hold) (next : RequestTree) → Yields next →
-    Yields (Opens asked scope (on_set next))
-sets_on asked scope next so = opens asked scope (on_set next) (if_set P next refuses (λ told. so))
+    Yields (Opens asked scope (on ok_in (λ done. next)))
+sets_on asked scope next so = opens asked scope (on ok_in (λ done. next)) (if_set P next refuses (λ told. so))
 
 pub good : (can : Bool) (one other : RequestTree) → Yields one → Yields other → Yields (if can then one else other)
 good true one other so also = so
@@ -354,13 +372,17 @@ pub without : (dropped : Bool) (next : RequestTree) → Yields next → Yields (
 without true next so = sets_on (call.DropCap fsetid) (hold.Dropped fsetid) next so
 without false next so = so
 
+pub opens_row : (row : Resolved) (flags : ℕ) (next : Fd → RequestTree) → ((fd : Fd) → Yields (next fd)) →
+    Yields (open_row row flags next)
+unfolding open_row
+opens_row row flags next so =
+    good (can_open row.mode) (open_form row.form flags next) (Gives (answer.Refused ebadf))
+    (reopens row.form flags next so) (refuses_so ebadf)
+
 pub opens_inode : (plan : Plan) (session : BegunSession) (number flags : ℕ) (next : Fd → RequestTree) →
     ((fd : Fd) → Yields (next fd)) → Yields (open_inode plan session number flags next)
 opens_inode plan session number flags next so =
-    let bits = inode_flags plan.config session.agreed flags in
-    resolves number _ (λ row.
-    good (can_open row.mode) (open_form row.form bits next) (Gives (answer.Refused ebadf))
-    (reopens row.form bits next so) (refuses_so ebadf))
+    resolves number _ (λ row. opens_row row (inode_flags plan.config session.agreed flags) next so)
 
 pub opens_num : (plan : Plan) (seat : HostSeat) (session : BegunSession) (number : ℕ) (kill : Bool) (flags : ℕ)
     (next : ℕ → RequestTree) → ((handle : ℕ) → Hands handle (next handle)) →
@@ -380,5 +402,6 @@ opens_shared plan session agreed next so =
     calls_fd (call.OpenRoot plan.config.root_dir by_path) _ (λ fd.
     stats fd _ (λ told.
     takes _ (
-    asks (Changes (change.InsertRoot session.era (File fd) told.ids told.mode agreed)) (on_root next) (λ h told. refl)
-    (if_root P next refuses (λ number. so)))))
+    asks (Changes (change.InsertRoot session.era (File fd) told.ids told.mode agreed)) (on inserted_in (λ done. next))
+    (λ h told. refl)
+    (if_inserted P next refuses (λ number. so)))))

@@ -21,16 +21,17 @@ use Rattle.pt_iface.specs.declared.entry.Entry.{Entry}
 use Rattle.pt_iface.specs.declared.flags.OpenOptions.{OpenOptions}
 use Rattle.pt_frame.specs.Deed.{Calls, Changes, Deed, IsStepOf, Step}
 use Rattle.pt_frame.specs.Replies.{passes_with}
-use Rattle.pt_frame.specs.Tree.{Asks, Bares, Gives, Refuses, RequestTree, Shuts}
+use Rattle.pt_frame.specs.Tree.{Asks, Bares, Gives, Refuses, RequestTree, Shuts, on, go_on}
 use Rattle.pt_frame.specs.declared.act.ActReply.{ActReply}
 use Rattle.pt_frame.specs.declared.act.ActReply.TheVariants.{Event, Host, NoCopy}
 use Rattle.pt_req.specs.Capability.{drops_fsetid, fsetid, without_fsetid}
-use Rattle.pt_req.specs.Creating.{handled, named_handle}
+use Rattle.pt_req.specs.Creating.{are_same, if_same, named_handle}
 use Rattle.pt_req.specs.Entries.{can_open}
 use Rattle.pt_req.specs.Options.{cleaned, create_options, inode_flags, without_nofollow}
-use Rattle.pt_req.specs.Parts.{handled_num, open_form, open_num, open_row}
-use Rattle.pt_req.specs.Steps.{Resolved, draw_handle, insert_handle, on_drawn, on_fd, on_handle, on_resolved}
-use Rattle.pt_req.specs.Steps.{on_set, on_taken, resolve, take_fd}
+use Rattle.pt_req.specs.Parts.{handled, open_form, open_num, open_row}
+use Rattle.pt_req.specs.Steps.{draw_handle, insert_handle, resolve, take_fd, drawn_in, fd_in, inserted_in, ok_in}
+use Rattle.pt_req.specs.Steps.{resolved_in, taken_in}
+use Rattle.pt_req.specs.declared.replies.Resolved.{Resolved}
 use Rattle.pt_req.specs.declared.begun.BegunSession.{BegunSession}
 use Rattle.pt_req.specs.declared.parts.asked.NamedHandle.{NamedHandle}
 use Rattle.pt_req.specs.declared.plan.Plan.{Plan}
@@ -71,32 +72,37 @@ along_on deed next (step ∷ path) last n p a = go step.deed step.reply a.0 a.1
     go None told i on = absurd i
 
 drawn_along : (next : ℕ → RequestTree) (told : ActReply) (path : List Step) (last : Answer) → HasEntry last →
-    Along (on_drawn next told) path last →
+    Along (on drawn_in next told) path last →
     (number : ℕ) × (told ≡ Event (event.Drawn number)) × Along (next number) path last
+unfolding on go_on
 drawn_along next (Event (event.Drawn number)) path last p a = (number, refl, a)
 drawn_along next told path last p a = absurd (refused_along told path last p a)
 
 taken_along : (next : RequestTree) (told : ActReply) (path : List Step) (last : Answer) → HasEntry last →
-    Along (on_taken next told) path last → (told ≡ Event event.Taken) × Along next path last
+    Along (on taken_in (λ done. next) told) path last → (told ≡ Event event.Taken) × Along next path last
+unfolding on go_on
 taken_along next (Event event.Taken) path last p a = (refl, a)
 taken_along next told path last p a = absurd (refused_along told path last p a)
 
 handle_along : (next : RequestTree) (told : ActReply) (path : List Step) (last : Answer) → HasEntry last →
-    Along (on_handle next told) path last →
+    Along (on inserted_in (λ done. next) told) path last →
     (given : ℕ) × (told ≡ Event (event.Inserted given)) × Along next path last
+unfolding on go_on
 handle_along next (Event (event.Inserted given)) path last p a = (given, refl, a)
 handle_along next told path last p a = absurd (refused_along told path last p a)
 
 resolved_along : (next : Resolved → RequestTree) (told : ActReply) (path : List Step) (last : Answer) →
-    HasEntry last → Along (on_resolved next told) path last →
+    HasEntry last → Along (on resolved_in next told) path last →
     (row : ℕ) × (form : RowForm) × (ids : ObjIds) × (mode : ℕ) × (told ≡ Event (event.Resolved row form ids mode))
     × Along (next (record { row = row; form = form; ids = ids; mode = mode })) path last
+unfolding on go_on
 resolved_along next (Event (event.Resolved row form ids mode)) path last p a = (row, form, ids, mode, refl, a)
 resolved_along next told path last p a = absurd (refused_along told path last p a)
 
 opened_along : (next : Fd → RequestTree) (told : ActReply) (path : List Step) (last : Answer) → HasEntry last →
-    Along (on_fd next told) path last →
+    Along (on fd_in next told) path last →
     (fd : Fd) × (told ≡ Host (host.Ok (value.Fd fd))) × Along (next fd) path last
+unfolding on go_on
 opened_along next (Host (host.Ok (value.Fd fd))) path last p a = (fd, refl, a)
 opened_along next told path last p a = absurd (refused_along told path last p a)
 
@@ -123,14 +129,16 @@ drawing_along : (session : BegunSession) (number : ℕ) (fd : Fd) (next : ℕ �
     (handle : ℕ) × (told : ℕ) × (rest : List Step)
     × (path ≡ handle_drawn handle ∷ slot_taken ∷ inserted session.era handle number fd told ∷ rest)
     × Along (next handle) rest last
+unfolding on go_on
 drawing_along session number fd next path last p a =
     let inserts : ℕ → RequestTree = λ handle. insert_handle session handle number fd (next handle) in
-    let d = along_on (Changes change.DrawHandle) (on_drawn (λ handle. take_fd (inserts handle))) path last refl p a in
+    let d = along_on (Changes change.DrawHandle) (on drawn_in (λ handle. take_fd (inserts handle))) path last refl p a
+    in
     let k = drawn_along (λ handle. take_fd (inserts handle)) d.told d.rest last p d.on in
-    let t = along_on (Changes change.TakeFd) (on_taken (inserts k.0)) d.rest last refl p k.2 in
+    let t = along_on (Changes change.TakeFd) (on taken_in (λ done. inserts k.0)) d.rest last refl p k.2 in
     let m = taken_along (inserts k.0) t.told t.rest last p t.on in
     let asks = change.InsertHandle session.era k.0 number fd in
-    let i = along_on (Changes asks) (on_handle (next k.0)) t.rest last refl p m.1 in
+    let i = along_on (Changes asks) (on inserted_in (λ done. next k.0)) t.rest last refl p m.1 in
     let n = handle_along (next k.0) i.told i.rest last p i.on in
     (k.0, n.0, i.rest, step_to d.are k.1 (step_to t.are m.0 (step_to i.are n.1 refl)), n.2)
 
@@ -158,7 +166,8 @@ pub record HandlesMade (fd : Fd) (number handle : ℕ) (path : List Step) : Type
 
 pub handled_along : (plan : Plan) (session : BegunSession) (fd : Fd) (entry given : Entry) (handle : ℕ)
     (options : OpenOptions) (path : List Step) →
-    Along (handled session fd entry (answers plan)) path (answer.Created given handle options) →
+    Along (handled session entry.inode fd (λ drawn. answers plan (named_handle entry drawn))) path
+    (answer.Created given handle options) →
     (entry ≡ given) × HandlesMade fd entry.inode handle path
 handled_along plan session fd entry given handle options path a =
     let last = answer.Created given handle options in
@@ -183,19 +192,29 @@ handled_along plan session fd entry given handle options path a =
     (e.1, subst (λ n. HandlesMade fd entry.inode n path) e.2 by)
 
 -- only where the name led to what was made
-pub same_along : (plan : Plan) (session : BegunSession) (fd : Fd) (entry given : Entry) (handle : ℕ)
-    (options : OpenOptions) (same : Bool) (path : List Step) →
-    Along (if same then handled session fd entry (answers plan) else Gives (answer.Refused estale)) path
-    (answer.Created given handle options) →
-    (same ≡ true) × (entry ≡ given) × HandlesMade fd entry.inode handle path
-same_along plan session fd entry given handle options true path a =
-    let h = handled_along plan session fd entry given handle options path a in (refl, h.0, h.1)
-same_along plan session fd entry given handle options false path a = absurd (stale path a)
-  where
-    stale : (path : List Step) →
-        Along (Gives (answer.Refused estale)) path (answer.Created given handle options) → ⊥
-    stale [] a = cc
-    stale (step ∷ path) a = a
+module _ (plan : Plan) (session : BegunSession) (fd : Fd) (entry given : Entry) (handle : ℕ)
+    (options : OpenOptions) where
+  abbrev then_handled : RequestTree
+  then_handled = handled session entry.inode fd (λ drawn. answers plan (named_handle entry drawn))
+
+  if_along : (same : Bool) (path : List Step) →
+      Along (if same then then_handled else Gives (answer.Refused estale)) path
+      (answer.Created given handle options) →
+      (same ≡ true) × (entry ≡ given) × HandlesMade fd entry.inode handle path
+  if_along true path a =
+      let h = handled_along plan session fd entry given handle options path a in (refl, h.0, h.1)
+  if_along false path a = absurd (stale path a)
+    where
+      stale : (path : List Step) →
+          Along (Gives (answer.Refused estale)) path (answer.Created given handle options) → ⊥
+      stale [] a = cc
+      stale (step ∷ path) a = a
+
+  pub same_along : (made found : ObjIds) (path : List Step) →
+      Along (if_same made found then_handled) path (answer.Created given handle options) →
+      (are_same made found ≡ true) × (entry ≡ given) × HandlesMade fd entry.inode handle path
+  unfolding if_same
+  same_along made found path a = if_along (are_same made found) path a
 
 pub each_join : (P : Step → Type 0) (xs ys : List Step) → Each P xs → Each P ys → Each P (xs ++ ys)
 each_join P [] ys a b = b
@@ -210,17 +229,19 @@ record ComesInto (next : RequestTree) (path : List Step) (last : Answer) : Type 
   on : Along next rest last
 
 set_along : (next : RequestTree) (told : ActReply) (path : List Step) (last : Answer) → HasEntry last →
-    Along (on_set next told) path last → Along next path last
+    Along (on ok_in (λ done. next) told) path last → Along next path last
+unfolding on go_on
 set_along next (Host (host.Ok got)) path last p a = a
 set_along next told path last p a = absurd (refused_along told path last p a)
 
 without_along : (dropped : Bool) (next : RequestTree) (path : List Step) (last : Answer) → HasEntry last →
     Along (without_fsetid dropped next) path last → ComesInto next path last
+unfolding on go_on
 without_along false next path last p a =
     record { first = []; rest = path; are = refl; makes_none = tt; on = a }
 without_along true next [] last p a = absurd a
 without_along true next (step ∷ path) last p a =
-    let o = along_on (Calls (call.DropCap fsetid)) (on_set next) (step ∷ path) last refl p a in
+    let o = along_on (Calls (call.DropCap fsetid)) (on ok_in (λ done. next)) (step ∷ path) last refl p a in
     record {
       first = made (Calls (call.DropCap fsetid)) o.told ∷ [];
       rest = o.rest;
@@ -234,11 +255,12 @@ pub opened_num_along : (plan : Plan) (seat : HostSeat) (session : BegunSession) 
     (entry given : Entry) (handle : ℕ) (options : OpenOptions) (path : List Step) →
     Along (open_num plan seat session entry.inode kill flags (λ handle. answers plan (named_handle entry handle)))
     path (answer.Created given handle options) → (entry ≡ given) × HandlesOwn entry.inode handle path
+unfolding on go_on open_row
 opened_num_along plan seat session kill flags entry given handle options path a =
     let w = without_along (drops_fsetid plan seat kill) (resolve entry.inode (λ row. open_row row bits drawn)) path
     last refl a in
-    let r = along_on (Changes (change.Resolve entry.inode)) (on_resolved (λ row. open_row row bits drawn)) w.rest last
-    refl refl w.on in
+    let r = along_on (Changes (change.Resolve entry.inode)) (on resolved_in (λ row. open_row row bits drawn)) w.rest
+    last refl refl w.on in
     let k = resolved_along (λ row. open_row row bits drawn) r.told r.rest last refl r.on in
     let o = kind (can_open k.3) k.1 r.rest k.5 in
     let d = drawing_along session entry.inode o.0 (λ handle. Shuts false (answers plan (named_handle entry handle)))
@@ -269,7 +291,8 @@ opened_num_along plan seat session kill flags entry given handle options path a 
     bits = inode_flags plan.config session.agreed (cleaned plan.config flags)
 
     drawn : Fd → RequestTree
-    drawn fd = Bares (handled_num session entry.inode (λ handle. answers plan (named_handle entry handle)) fd)
+    drawn fd = Bares (handled session entry.inode fd (λ handle.
+        Shuts false (answers plan (named_handle entry handle))))
 
     form_along : (form : RowForm) (rest : List Step) → Along (open_form form bits drawn) rest last →
         (fd : Fd) × (dir : Fd) × (how : OpenFlags) × (more : List Step)
@@ -277,7 +300,7 @@ opened_num_along plan seat session kill flags entry given handle options path a 
         × Along (drawn fd) more last
     form_along (File dir) rest a =
         let how = without_nofollow bits in
-        let o = along_on (Calls (call.Reopen dir how)) (on_fd drawn) rest last refl refl a in
+        let o = along_on (Calls (call.Reopen dir how)) (on fd_in drawn) rest last refl refl a in
         let k = opened_along drawn o.told o.rest last refl o.on in
         (k.0, dir, how, o.rest, step_to o.are k.1 refl, k.2)
 
@@ -316,9 +339,9 @@ pub record Inserted (number handle : ℕ) (steps : List Step) : Type 0 where
   pub are : steps ≡ front ++ inserted era handle number fd told ∷ back
   pub makes_none : Each (λ (step : Step). MakesNone step.deed step.reply) steps
 
-pub inserted_in : (number handle : ℕ) (path steps : List Step) → AreOwn path steps → HandlesOwn number handle path →
+pub inserted_by : (number handle : ℕ) (path steps : List Step) → AreOwn path steps → HandlesOwn number handle path →
     Inserted number handle steps
-inserted_in number handle path steps o h =
+inserted_by number handle path steps o h =
     let a = inserted h.era handle number h.fd h.told in
     let own = own_same path steps h.first [] a o h.are in
     let none = each_join (λ (step : Step). MakesNone step.deed step.reply) h.first (a ∷ []) h.makes_none (tt, tt) in
@@ -341,12 +364,12 @@ pub record InsertedNew (fd : Fd) (number handle : ℕ) (steps : List Step) : Typ
 
 pub inserted_new : (fd : Fd) (number handle : ℕ) (path steps : List Step) → AreOwn path steps →
     HandlesMade fd number handle path → InsertedNew fd number handle steps
-unfolding inserted_in
+unfolding inserted_by
 inserted_new fd number handle path steps o h =
     let a = inserted h.own.era handle number h.own.fd h.own.told in
     let own = own_same path steps h.own.first [] a o h.own.are in
     record {
-      all = inserted_in number handle path steps o h.own;
+      all = inserted_by number handle path steps o h.own;
       same_fd = h.same_fd;
       came = own_quiet ComesToNone returns_come h.own.first own.front own.own_front h.came;
     }

@@ -22,11 +22,13 @@ use Rattle.pt_req.specs.Options.{cleaned, inode_flags, without_nofollow}
 use Rattle.pt_req.specs.Parts.{by_path, file_of, look_up, looked_of, numbered, open_form, open_num, open_row}
 use Rattle.pt_req.specs.Parts.{open_inode, root_open}
 use Rattle.pt_req.specs.Requests.{unserved}
-use Rattle.pt_req.specs.Steps.{Resolved}
+use Rattle.pt_req.specs.Steps.{begin}
+use Rattle.pt_req.specs.declared.replies.Resolved.{Resolved}
 use Rattle.pt_req.specs.declared.begun.BegunSession.{BegunSession}
 use Rattle.pt_req.specs.declared.parts.looked.Looked.{Looked}
 use Rattle.pt_req.specs.declared.plan.Plan.{Plan}
-use Rattle.pt_attr.specs.Requests.{file_by, files_by}
+use Rattle.pt_attr.specs.Parts.{file_by, files_by, two_files}
+use Rattle.pt_attr.specs.declared.parts.TwoFiles.{TwoFiles}
 use Rattle.pt_law.specs.Discipline.{Notes, Told, blank, given_for, newly, told_of, with_root}
 use Rattle.pt_law.specs.Keeps.{Lasts}
 use Rattle.pt_fit.specs.Cause.{Asking, OpensFile, OwnCause}
@@ -74,7 +76,7 @@ fit_numbered : {asked : Asking} {seen : List Seen} {holds : List Hold} {marks : 
 fit_numbered session fd told next row dir e l t f =
     let top = hold.Fd fd in
     let pin = hold.Pin row (Some dir) in
-    fit_claim session fd told.ids next _ e l t
+    fit_claim session fd told.ids _ e l t
     (λ number. f number (top ∷ pin ∷ []) _ (record { era = refl; given = refl; told = λ other is. is }))
     (fit_take_fd fd _
     (fit_draw_node _ (λ fresh.
@@ -104,11 +106,12 @@ under_top top row (File fd) next f = f fd
 
 -- the files of two numbers, whose rows are pinned then
 pub fit_files_by : {asked : Asking} {seen : List Seen} {marks : List ℕ} {notes : Notes} (first second : ℕ)
-    (next : Fd → Fd → RequestTree) →
+    (next : TwoFiles → RequestTree) →
     ((one other : ℕ) (from to : Fd) →
-    FitOn asked seen (next from to) (hold.Pin other (Some to) ∷ hold.Pin one (Some from) ∷ []) marks
+    FitOn asked seen (next (two_files from to)) (hold.Pin other (Some to) ∷ hold.Pin one (Some from) ∷ []) marks
     (noting second other (noting first one notes))) →
     FitOn asked seen (files_by first second next) [] marks notes
+unfolding files_by
 fit_files_by first second next f =
     fit_resolve first _ nothing_bare (λ one. after_any_step (
     fit_resolve second _ (λ top. refl) (λ other. after_any_step (
@@ -132,6 +135,7 @@ pub fit_look_up : {asked : Asking} {seen : List Seen} {holds : List Hold} {marks
     (plan : Plan) (session : BegunSession) (parent : ℕ) (name : List ℕ) (next : Looked → RequestTree) → IsBare holds →
     notes.era ≡ Some session.era → notes.brought ≡ None → Looks asked seen session name next holds marks notes →
     FitOn asked seen (look_up plan session parent name next) holds marks notes
+unfolding look_up
 fit_look_up {asked = asked} {holds = holds} {notes = notes} plan session parent name next b e n f =
     fit_brackets _ (fit_resolve parent _ b (λ row. after_any_step (fit_file_of row.row row.form _ (λ dir.
     fit_open_at dir name by_path row.row parent _ refl (path_heeded asked dir name) (λ fd.
@@ -139,7 +143,7 @@ fit_look_up {asked = asked} {holds = holds} {notes = notes} plan session parent 
     fit_numbered session fd told _ row.row dir e refl (told_here fd told.ids (newly fd notes).told, n)
     (λ number front later l.
     fit_shuts_passing _ (hold.Count session.era number) front holds (λ last m.
-    f (looked_of plan session row.ids told (File fd) number) fd last (record {
+    f (looked_of plan session row.ids told number) fd last (record {
       era = m.0 ∙ l.era;
       given = m.2 ∙ l.given;
       told = λ other is.
@@ -187,6 +191,7 @@ pub fit_open_row : {asked : Asking} {seen : List Seen} {marks : List ℕ} (holds
     (record (newly new (noting number row.row notes)) { reopened = Some new })) →
     GoesAfter (resolution number row) asked seen (open_row row flags next)
     (over dropped (hold.Pin row.row (row_fd row.form) ∷ holds)) marks (noting number row.row notes)
+unfolding open_row
 fit_open_row {asked = asked} {seen = seen} {marks = marks} holds dropped notes number flags row next o f =
     kind (can_open row.mode) refl
   where
@@ -227,6 +232,6 @@ fit_open_num {holds = holds} plan seat session number kill flags next o b e f =
 
 -- the function is not there
 pub fit_unserved : (asked : Asking) → OwnCause asked.plan asked.who asked.request (errno_of 38) →
-    FitOn asked [] unserved [] [] blank
+    FitOn asked [] (begin unserved) [] [] blank
 fit_unserved asked own = fit_begin _ refl (λ session.
     fit_gives (answer.Refused (errno_of 38)) (λ path. (tt, inl own, tt)))

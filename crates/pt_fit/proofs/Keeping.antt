@@ -1,20 +1,23 @@
 -- A handle that a request inserted is the one that it is answered with.
 use Rattle.std.proofs.Common.{◌≡◌, inl, inr, ◌∷◌, ◌∙◌, [], if◌then◌else◌, ℕ, Bool, List, None, Option, Some}
-use Rattle.std.proofs.Common.{ap, arith, false, refl, true}
+use Rattle.std.proofs.Common.{Result, ap, arith, false, refl, true}
 use Rattle.std.specs.Int.{w64, cast_signed}
+use Rattle.std.specs.List.{list_any}
 use Rattle.std.specs.Prelude.{◌||◌}
 use Rattle.pt_host.specs.Call.{Call}
-use Rattle.pt_host.specs.Errno.{ebadf, einval, eopnotsupp, eperm, errno_of, estale}
+use Rattle.pt_host.specs.Errno.{einval, eopnotsupp, eperm, errno_of, estale}
 use Rattle.pt_host.specs.Flags.{o_directory}
 use Rattle.pt_host.specs.declared.edit.Edit.{Edit}
 use Rattle.pt_host.specs.declared.flags.OpenFlags.{OpenFlags}
 use Rattle.pt_host.specs.declared.ids.Errno.{Errno}
 use Rattle.pt_host.specs.declared.ids.Fd.{Fd}
+use Rattle.pt_host.specs.declared.ids.ObjIds.{ObjIds}
 use Rattle.pt_host.specs.declared.op.KeptHostOp.TheVariants as call
 use Rattle.pt_host.specs.declared.reply.HostReply.TheVariants as host
 use Rattle.pt_host.specs.declared.seat.HostSeat.{HostSeat}
-use Rattle.pt_creds.specs.Identity.{Credentials}
-use Rattle.pt_creds.specs.Steps.{calls_of, cred_steps}
+use Rattle.pt_creds.specs.Identity.{Credentials, override_cap}
+use Rattle.pt_creds.specs.Steps.{cred_steps}
+use Rattle.pt_creds.specs.declared.credentials.CredSteps.{CredSteps}
 use Rattle.pt_session.specs.Tables.{nothing_agreed}
 use Rattle.pt_session.specs.declared.event.KeptEvent.TheVariants as change
 use Rattle.pt_iface.specs.declared.answer.Answer.{Answer}
@@ -29,43 +32,43 @@ use Rattle.pt_iface.specs.declared.request.SetattrIn.{SetattrIn}
 use Rattle.pt_frame.specs.Deed.{Calls, Changes, Deed, Step}
 use Rattle.pt_frame.specs.Edit.{edit_answer, edit_grammar}
 use Rattle.pt_frame.specs.Grammar.{Belongs}
-use Rattle.pt_frame.specs.Tree.{Bares, Gives, RequestTree, Shuts}
+use Rattle.pt_frame.specs.Tree.{Bares, Gives, RequestTree, Shuts, on}
 use Rattle.pt_frame.specs.declared.act.ActReply.{ActReply}
 use Rattle.pt_frame.specs.declared.act.ActReply.TheVariants.{Host}
 use Rattle.pt_frame.specs.declared.finish.Finish.TheVariants as finish
 use Rattle.pt_frame.specs.declared.hold.Hold.TheVariants as hold
-use Rattle.pt_req.specs.Asker.{as_asker, asker_of, taken_on}
+use Rattle.pt_req.specs.Asker.{as_asker, asker_of, cap_raised, egid_set, euid_set, group_set, taken_on}
 use Rattle.pt_req.specs.Attributes.{is_blocked}
 use Rattle.pt_req.specs.Capability.{drops_fsetid}
-use Rattle.pt_req.specs.Creating.{are_same, handled, labelled, named_handle, new_file, old_file, takes_old, undone}
-use Rattle.pt_req.specs.Entries.{attr_of, can_open, is_bad_name, is_bad_offset}
+use Rattle.pt_req.specs.Creating.{FileAsked, are_same, if_same, label_set, labelled, made_file, make_file}
+use Rattle.pt_req.specs.Creating.{named_handle, new_file, old_file, takes_old, undone}
+use Rattle.pt_req.specs.Entries.{attr_of}
 use Rattle.pt_req.specs.Options.{agreed_with, create_options, init_options, making_flags}
 use Rattle.pt_req.specs.Options.{o_nofollow, open_options, with_bits}
 use Rattle.pt_req.specs.Parts.{by_path}
 use Rattle.pt_req.specs.Requests.{batch_forget, create, file_asked, open_file, release, unserved}
-use Rattle.pt_req.specs.Steps.{Resolved, make_at}
-use Rattle.pt_req.specs.Steps.{set_xattr}
-use Rattle.pt_req.specs.Steps.{on_made, on_ok_or, on_pinned, on_set, on_tried, pin_handle}
-use Rattle.pt_req.specs.Steps.{session_of}
+use Rattle.pt_req.specs.Steps.{begin, made_in, make_at, ok_in, or_refused, pin_handle, pinned_in, refused_in}
+use Rattle.pt_req.specs.Steps.{session_of, tried_in}
+use Rattle.pt_req.specs.declared.replies.Resolved.{Resolved}
 use Rattle.pt_req.specs.declared.begun.BegunSession.{BegunSession}
-use Rattle.pt_req.specs.declared.parts.asked.FileAsked.{FileAsked}
+use Rattle.pt_req.specs.declared.replies.Made.{Made}
+use Rattle.pt_req.specs.declared.replies.Made.TheVariants.{New, Old}
 use Rattle.pt_req.specs.declared.parts.asked.NamedHandle.{NamedHandle}
 use Rattle.pt_req.specs.declared.plan.Plan.{Plan}
 use Rattle.pt_req.proofs.Replying.{if_bytes}
-use Rattle.pt_req.proofs.Replying.{if_made, if_ok_or, if_pinned, if_set, if_tried}
-use Rattle.pt_attr.specs.Pattern.{Asked, Edits, Requests, grammar_for, tree_of}
+use Rattle.pt_req.proofs.Replying.{if_made, if_refused, if_pinned, if_set, if_tried}
+use Rattle.pt_job.specs.Pattern.{Asked, Edits, Requests, grammar_for, tree_of}
 use Rattle.pt_attr.specs.Access.{is_granted}
 use Rattle.pt_attr.specs.Contents.{appends, fsync}
-use Rattle.pt_attr.specs.Making.{is_bad_target, labelled_at, make, make_named, making_call, object_asked, on_fd_or}
-use Rattle.pt_attr.specs.Making.{unmaking_call}
+use Rattle.pt_attr.specs.Making.{ObjectAsked, is_nul, kept_at, label_at, labelled_at, make_object, set_opened}
+use Rattle.pt_attr.specs.Making.{targeted}
 use Rattle.pt_attr.specs.Setting.{atime_set, do_if, file_set, is_missized, mtime_set, opens_anew, own_as, set_owner}
 use Rattle.pt_attr.specs.Setting.{setting_flags, sets_atime, sets_gid, sets_mode, sets_mtime, sets_size, sets_uid}
-use Rattle.pt_attr.specs.Setting.{kills_suidgid, set_size, target_of}
-use Rattle.pt_attr.specs.Steps.{count_of, on_count}
-use Rattle.pt_attr.specs.declared.requests.making.Made.TheVariants as made
-use Rattle.pt_attr.specs.declared.requests.making.ObjectAsked.{ObjectAsked}
-use Rattle.pt_attr.proofs.Makings.{if_fd_or}
-use Rattle.pt_attr.proofs.Replying.{if_count, if_fs_stat}
+use Rattle.pt_attr.specs.Setting.{cut_if, kills_suidgid, own_if, set_size, sized, target_as, target_of}
+use Rattle.pt_attr.specs.Steps.{count_in, count_of, make, opened_in}
+use Rattle.pt_attr.specs.declared.parts.setting.Target.{Target}
+use Rattle.pt_attr.proofs.Replying.{if_count, if_fs_stat, if_opened}
+use Rattle.pt_job.specs.Requests.{object_asked}
 use Rattle.pt_law.specs.Branch.{AreOwn, AreOwn.{keep, none, skip}, ReturnsHold}
 use Rattle.pt_law.specs.Ledger.{handle_inserted_as, weighed}
 use Rattle.pt_law.specs.Told.{AllMayBeTold}
@@ -73,22 +76,24 @@ use Rattle.pt_law.proofs.Branches.{branch}
 use Rattle.pt_fit.specs.Handled.{KeepsHandle, handle_count, handles_in}
 use Rattle.pt_fit.proofs.HandleParts.{Hands, Yields, P, asks, bares, begins, both_files, brackets, checks, clears}
 use Rattle.pt_fit.proofs.HandleParts.{decides, does, dones, files, gets_handle, gives, hands, looks_up, one_file}
-use Rattle.pt_fit.proofs.HandleParts.{opens_inode, opens_num, opens_shared, refuses, refuses_so, reopens, resolves}
-use Rattle.pt_fit.proofs.HandleParts.{sets_on, shuts, stats, step_none, without}
+use Rattle.pt_fit.proofs.HandleParts.{opens_inode, opens_num, opens_shared, refuses, refuses_so, resolves}
+use Rattle.pt_fit.proofs.HandleParts.{names, opens_row, places, sets_on, shuts, stats, step_none, without}
+use Rattle.pt_fit.proofs.ObjectKinds.{Kind, Directory, Link, Node, make_kind, make_named, making_call, targeted_as}
+use Rattle.pt_fit.proofs.ObjectKinds.{unmaking_call}
 
 files_set : (handle : Option ℕ) (valid : SetattrValid) (row : Resolved) (next : Fd → RequestTree) →
     ((fd : Fd) → Yields (next fd)) → Yields (file_set handle valid row next)
+unfolding file_set
 files_set handle valid row next so =
-    checks (opens_anew handle valid) _ _ (
-    checks (can_open row.mode) _ _ (reopens row.form setting_flags next so) (refuses_so ebadf))
-    (files row.form next so)
+    checks (opens_anew handle valid) _ _ (opens_row row setting_flags next so) (files row.form next so)
 
-targets : (inode : ℕ) (handle : Option ℕ) (file : Fd) (next : Fd → Bool → RequestTree) →
-    ((target : Fd) (through : Bool) → Yields (next target through)) → Yields (target_of inode handle file next)
+targets : (inode : ℕ) (handle : Option ℕ) (file : Fd) (next : Target → RequestTree) →
+    ((target : Target) → Yields (next target)) → Yields (target_of inode handle file next)
+unfolding target_of
 targets inode (Some handle) file next so =
     asks (Changes (change.PinHandle handle inode)) _ (λ h told. refl)
-    (if_pinned P _ refuses (λ row fd. so fd false))
-targets inode None file next so = so file true
+    (if_pinned P _ refuses (λ row fd. so (target_as fd false)))
+targets inode None file next so = so (target_as file true)
 
 does_if : (is : Bool) (asked : Call) (next : RequestTree) → Yields next → Yields (do_if is asked next)
 does_if true asked next so = does asked next so
@@ -99,42 +104,72 @@ owns file (Some uid) (Some gid) next so = does (call.ChOwn file uid gid) next so
 owns file (Some uid) None next so = refuses_so eperm
 owns file None gid next so = refuses_so eperm
 
+owns_if : (is : Bool) (file : Fd) (uid gid : Option ℕ) (next : RequestTree) → Yields next →
+    Yields (own_if is file uid gid next)
+owns_if true file uid gid next so = owns file uid gid next so
+owns_if false file uid gid next so = so
+
 sets_owner : (plan : Plan) (valid : SetattrValid) (attr : SetattrIn) (file : Fd) (next : RequestTree) → Yields next →
     Yields (set_owner plan valid attr file next)
 sets_owner plan valid attr file next so =
-    checks (sets_uid valid || sets_gid valid) _ _ (owns file _ _ next so) so
+    owns_if (sets_uid valid || sets_gid valid) file _ _ next so
 
-sizes : (plan : Plan) (seat : HostSeat) (valid : SetattrValid) (attr : SetattrIn) (target : Fd) (next : RequestTree) →
-    Yields next → Yields (set_size plan seat valid attr target next)
+cuts : (is drops : Bool) (file : Fd) (size : ℕ) (next : RequestTree) → Yields next →
+    Yields (cut_if is drops file size next)
+cuts true drops file size next so = without drops _ (does (call.Truncate file size) _ (bares next so))
+cuts false drops file size next so = so
+
+sizes : (plan : Plan) (seat : HostSeat) (valid : SetattrValid) (attr : SetattrIn) (target : Target)
+    (next : RequestTree) → Yields next → Yields (set_size plan seat valid attr target next)
 sizes plan seat valid attr target next so =
-    checks (sets_size valid) _ _ (
-    without (drops_fsetid plan seat (kills_suidgid valid)) _ (
-    does (call.Truncate target attr.size) _ (bares next so))) so
+    cuts (sets_size valid) (drops_fsetid plan seat (kills_suidgid valid)) target.fd attr.size next so
+
+sizes_well : (valid : SetattrValid) (attr : SetattrIn) (next : RequestTree) → Yields next →
+    Yields (sized valid attr next)
+unfolding sized
+sizes_well valid attr next so =
+    checks (is_missized valid attr) (Gives (answer.Refused einval)) next (refuses_so einval) so
 
 opens_it : (plan : Plan) (seat : HostSeat) (inode : ℕ) (kill : Bool) (flags : ℕ) →
-    Yields (open_file plan seat inode kill flags)
+    Yields (begin (open_file plan seat inode kill flags))
 opens_it plan seat inode kill flags =
     begins _ (λ session.
     opens_num plan seat session inode kill flags _ (λ handle.
     hands handle (answer.Opened handle (open_options plan.config flags)) (λ h. refl)))
 
-takes_on : (calls : List Call) (next : RequestTree) → Yields next → Yields (taken_on calls next)
-takes_on [] next so = so
-takes_on (call.SetGroups list ∷ calls) next so = sets_on (call.SetGroups list) hold.Groups _ (takes_on calls next so)
-takes_on (call.SetEgid gid ∷ calls) next so = sets_on (call.SetEgid gid) hold.EffectiveGid _ (takes_on calls next so)
-takes_on (call.SetEuid uid ∷ calls) next so = sets_on (call.SetEuid uid) hold.EffectiveUid _ (takes_on calls next so)
-takes_on (asked ∷ calls) next so =
-    asks (Calls asked) (on_tried (taken_on calls next)) (λ h told. refl)
-    (if_tried P (taken_on calls next) refuses (λ told. takes_on calls next so))
+raises : (raise : Bool) (next : RequestTree) → Yields next → Yields (cap_raised raise next)
+raises false next so = so
+raises true next so =
+    asks (Calls (call.RaiseCap override_cap)) (on tried_in (λ done. next)) (λ h told. refl)
+    (if_tried P next refuses (λ told. so))
+
+sets_euid : (euid : Option ℕ) (next : RequestTree) → Yields next → Yields (euid_set euid next)
+sets_euid None next so = so
+sets_euid (Some uid) next so = sets_on (call.SetEuid uid) hold.EffectiveUid next so
+
+sets_egid : (egid : Option ℕ) (next : RequestTree) → Yields next → Yields (egid_set egid next)
+sets_egid None next so = so
+sets_egid (Some gid) next so = sets_on (call.SetEgid gid) hold.EffectiveGid next so
+
+sets_group : (groups : Option ℕ) (next : RequestTree) → Yields next → Yields (group_set groups next)
+sets_group None next so = so
+sets_group (Some group) next so = sets_on (call.SetGroups (group ∷ [])) hold.Groups next so
+
+takes_on : (steps : CredSteps) (next : RequestTree) → Yields next → Yields (taken_on steps next)
+takes_on steps next so =
+    let raised : RequestTree = cap_raised steps.raise next in
+    let under_uid : RequestTree = euid_set steps.euid raised in
+    sets_group steps.groups (egid_set steps.egid under_uid)
+    (sets_egid steps.egid under_uid (sets_euid steps.euid raised (raises steps.raise next so)))
 
 makes : (seat : HostSeat) (asker : Option Credentials) (dir : Fd) (name : List ℕ) (flags : OpenFlags) (mode : ℕ)
-    (next : Fd → RequestTree) (may_be : Bool) (there : RequestTree) → ((fd : Fd) → Yields (next fd)) → Yields there →
-    Yields (as_asker seat asker (make_at dir name flags mode next may_be there))
-makes seat None dir name flags mode next may_be there so other = refuses_so eperm
-makes seat (Some creds) dir name flags mode next may_be there so other =
-    takes_on (calls_of (cred_steps creds seat)) _ (
-    asks (Calls (call.OpenAt dir name flags mode)) (λ told. Bares (on_made next may_be there told)) (λ h told. refl)
-    (λ told. bares _ (if_made P next may_be there refuses so (λ errno. other) (λ errno. other) told)))
+    (may_be : Bool) (next : Made → RequestTree) → ((fd : Fd) → Yields (next (New fd))) → Yields (next Old) →
+    Yields (as_asker seat asker (make_at dir name flags mode may_be next))
+makes seat None dir name flags mode may_be next so other = refuses_so eperm
+makes seat (Some creds) dir name flags mode may_be next so other =
+    takes_on (cred_steps creds seat) (make_at dir name flags mode may_be next) (
+    asks (Calls (call.OpenAt dir name flags mode)) (λ told. Bares (on (made_in may_be) next told)) (λ h told. refl)
+    (λ told. bares _ (if_made P next may_be refuses so (λ errno. other) (λ errno. other) told)))
 
 abbrev answers : Plan → NamedHandle → RequestTree
 answers plan named = Gives (answer.Created named.entry named.handle (create_options plan.config))
@@ -146,117 +181,155 @@ made_so plan entry handle = hands handle (answer.Created entry handle (create_op
 undoes : (undoing : Call) (last : Answer) → ((handle : ℕ) → handle_count handle last ≡ 0) →
     Yields (undone undoing last)
 undoes undoing last without =
-    asks (Calls undoing) (on_tried (Gives last)) (λ h told. refl)
+    asks (Calls undoing) (on tried_in (λ done. Gives last)) (λ h told. refl)
     (if_tried P (Gives last) refuses (λ told. gives last without))
 
-labels : (session : BegunSession) (fd : Fd) (undoing : Call) (label : Option SecContext) (next : RequestTree) →
-    Yields next → Yields (labelled session fd undoing label next)
-labels session fd undoing None next so = so
-labels session fd undoing (Some label) next so =
+label_sets : (session : BegunSession) (fd : Fd) (undoing : Call) (label : SecContext) (next : RequestTree) →
+    Yields next → Yields (label_set session fd undoing label next)
+unfolding label_set
+label_sets session fd undoing label next so =
     checks (is_blocked session.agreed label.name) _ _ (undoes undoing (answer.Refused eopnotsupp) (λ h. refl)) (
-    asks (Calls (call.SetXattr fd false label.name label.value 0)) (on_ok_or (undone undoing) next) (λ h told. refl)
-    (if_ok_or P (undone undoing) next refuses (λ told. so)
+    asks (Calls (call.SetXattr fd false label.name label.value 0)) (on refused_in (or_refused (undone undoing) next))
+    (λ h told. refl)
+    (if_refused P (or_refused (undone undoing) next) refuses (λ told. so)
     (λ errno. undoes undoing (answer.Refused errno) (λ h. refl))
     (λ errno. undoes undoing (answer.Refused errno) (λ h. refl))
     (undoes undoing answer.NoMemory (λ h. refl)) (undoes undoing answer.NoMemory (λ h. refl))))
 
+labels : (session : BegunSession) (fd : Fd) (undoing : Call) (label : Option SecContext) (next : RequestTree) →
+    Yields next → Yields (labelled session fd undoing label next)
+labels session fd undoing None next so = so
+labels session fd undoing (Some label) next so = label_sets session fd undoing label next so
+
+same : (is_same : Bool) (next : RequestTree) → Yields next →
+    Yields (if is_same then next else Gives (answer.Refused estale))
+same true next so = so
+same false next so = refuses_so estale
+
+sames : (made found : ObjIds) (next : RequestTree) → Yields next → Yields (if_same made found next)
+unfolding if_same
+sames made found next so = same (are_same made found) next so
+
 makes_new : (plan : Plan) (session : BegunSession) (asked : FileAsked) (dir fd : Fd) →
     Yields (new_file plan session asked dir fd (answers plan))
+unfolding new_file
 makes_new plan session asked dir fd =
     stats fd _ (λ made.
-    labels session fd (call.Unlink dir asked.name) asked.secctx _ (
+    labels session fd (call.Unlink dir asked.name) asked.ext.secctx _ (
     looks_up plan session asked.parent asked.name _ (λ looked.
-    same (are_same made.ids looked.ids) (handled session fd looked.entry (answers plan)) (
+    sames made.ids looked.ids _ (
     gets_handle session looked.entry.inode fd (λ handle. answers plan (named_handle looked.entry handle))
     (made_so plan looked.entry)))))
-  where
-    same : (is_same : Bool) (next : RequestTree) → Yields next →
-        Yields (if is_same then next else Gives (answer.Refused estale))
-    same true next so = so
-    same false next so = refuses_so estale
 
 takes_old_one : (plan : Plan) (seat : HostSeat) (session : BegunSession) (asked : FileAsked) →
     Yields (old_file plan seat session asked (answers plan))
+unfolding old_file
 takes_old_one plan seat session asked =
     looks_up plan session asked.parent asked.name _ (λ looked.
     opens_num plan seat session looked.entry.inode asked.kill asked.flags _ (made_so plan looked.entry))
 
-creates_it : (plan : Plan) (seat : HostSeat) (asked : FileAsked) → Yields (create plan seat asked)
+makes_file : (plan : Plan) (seat : HostSeat) (session : BegunSession) (asked : FileAsked) (dir : Fd) →
+    Yields (make_file plan seat session asked dir (answers plan))
+unfolding make_file
+makes_file plan seat session asked dir =
+    makes seat (asker_of plan session asked.who asked.ext.sup_gid) dir asked.name (making_flags asked.flags) asked.mode
+    (takes_old asked.flags) (λ made. made_file plan seat session asked dir made (answers plan))
+    (makes_new plan session asked dir) (takes_old_one plan seat session asked)
+
+creates_it : (plan : Plan) (seat : HostSeat) (asked : FileAsked) → Yields (begin (create plan seat asked))
 creates_it plan seat asked =
     begins _ (λ session.
-    checks (is_bad_name asked.name) _ _ (refuses_so einval) (
+    names asked.name _ (
     resolves asked.parent _ (λ directory.
-    files directory.form _ (λ dir.
-    makes seat (asker_of plan session asked.who asked.sup_gid) dir asked.name (making_flags asked.flags) asked.mode
-    _ (takes_old asked) _ (makes_new plan session asked dir) (takes_old_one plan seat session asked)))))
+    files directory.form _ (λ dir. makes_file plan seat session asked dir))))
 
 -- an object under a name, which gets its context by a descriptor of its own
-labels_at : (session : BegunSession) (dir : Fd) (name : List ℕ) (undoing : Call) (label : Option SecContext)
-    (next : RequestTree) → Yields next → Yields (labelled_at session dir name undoing label next)
-labels_at session dir name undoing None next so = so
-labels_at session dir name undoing (Some label) next so =
-    checks (is_blocked session.agreed label.name) _ _ (undoes undoing (answer.Refused eopnotsupp) (λ h. refl)) (
-    brackets _ (
-    asks (Calls (call.OpenAt dir name by_path 0)) (on_fd_or shut sets) (λ h told. refl)
-    (if_fd_or P shut sets refuses (λ fd.
-    asks (Calls (call.SetXattr fd true label.name label.value 0)) (on_ok_or shut (Shuts false next)) (λ h told. refl)
-    (if_ok_or P shut (Shuts false next) refuses (λ told. shuts false _ so) refused refused out out))
-    refused refused out out)))
-  where
-    shut : Answer → RequestTree
-    shut last = Shuts false (undone undoing last)
+module _ (undoing : Call) (next : RequestTree) (so : Yields next) where
+  abbrev shut : Option Answer → RequestTree
+  shut refused = Shuts false (or_refused (undone undoing) next refused)
 
-    sets : Fd → RequestTree
-    sets fd = set_xattr fd true label.name label.value 0 shut (Shuts false next)
+  shut_refused : (errno : Errno) → Yields (Shuts false (undone undoing (answer.Refused errno)))
+  shut_refused errno = shuts false _ (undoes undoing (answer.Refused errno) (λ h. refl))
 
-    refused : (errno : Errno) → Yields (shut (answer.Refused errno))
-    refused errno = shuts false _ (undoes undoing (answer.Refused errno) (λ h. refl))
+  shut_out : Yields (Shuts false (undone undoing answer.NoMemory))
+  shut_out = shuts false _ (undoes undoing answer.NoMemory (λ h. refl))
 
-    out : Yields (shut answer.NoMemory)
-    out = shuts false _ (undoes undoing answer.NoMemory (λ h. refl))
+  keeps_at : (dir : Fd) (name attribute value : List ℕ) → Yields (kept_at dir name undoing attribute value next)
+  keeps_at dir name attribute value =
+      let opened : Result Fd Answer → RequestTree = λ told. set_opened attribute value told shut in
+      brackets _ (
+      asks (Calls (call.OpenAt dir name by_path 0)) (on opened_in opened) (λ h told. refl)
+      (if_opened P opened refuses (λ fd.
+      asks (Calls (call.SetXattr fd true attribute value 0)) (on refused_in shut) (λ h told. refl)
+      (if_refused P shut refuses (λ told. shuts false _ so) shut_refused shut_refused shut_out shut_out))
+      shut_refused shut_refused shut_out shut_out))
+
+  label_sets_at : (session : BegunSession) (dir : Fd) (name : List ℕ) (label : SecContext) →
+      Yields (label_at session dir name undoing label next)
+  unfolding label_at
+  label_sets_at session dir name label =
+      checks (is_blocked session.agreed label.name) _ _ (undoes undoing (answer.Refused eopnotsupp) (λ h. refl))
+      (keeps_at dir name label.name label.value)
+
+  labels_at : (session : BegunSession) (dir : Fd) (name : List ℕ) (label : Option SecContext) →
+      Yields (labelled_at session dir name undoing label next)
+  labels_at session dir name None = so
+  labels_at session dir name (Some label) = label_sets_at session dir name label
 
 makes_object : (seat : HostSeat) (asker : Option Credentials) (making : Call) (next : RequestTree) → Yields next →
     Yields (as_asker seat asker (make making next))
 makes_object seat None making next so = refuses_so eperm
 makes_object seat (Some creds) making next so =
-    takes_on (calls_of (cred_steps creds seat)) _ (
-    asks (Calls making) (λ told. Bares (on_set next told)) (λ h told. refl)
+    takes_on (cred_steps creds seat) (make making next) (
+    asks (Calls making) (λ told. Bares (on ok_in (λ done. next) told)) (λ h told. refl)
     (λ told. bares _ (if_set P next refuses (λ got. so) told)))
 
-makes_named : (plan : Plan) (seat : HostSeat) (object : ObjectAsked) → Yields (make_named plan seat object)
-makes_named plan seat object =
-    begins _ (λ session.
-    checks (is_bad_name object.name) _ _ (refuses_so einval) (
-    checks (is_bad_target object.made) _ _ (refuses_so einval) (
-    resolves object.parent _ (λ directory.
-    files directory.form _ (λ dir.
-    makes_object seat (asker_of plan session object.who object.sup_gid) (making_call object.made dir object.name) _ (
-    labels_at session dir object.name (unmaking_call object.made dir object.name) object.secctx _ (
+makes_kind : (plan : Plan) (seat : HostSeat) (session : BegunSession) (object : ObjectAsked) (kind : Kind) (dir : Fd) →
+    Yields (make_kind plan seat session object kind dir)
+unfolding make_object
+makes_kind plan seat session object kind dir =
+    makes_object seat (asker_of plan session object.who object.ext.sup_gid) (making_call kind dir object.name) _ (
+    labels_at (unmaking_call kind dir object.name) _ (
     looks_up plan session object.parent object.name _ (λ looked.
-    gives (answer.Entry looked.entry) (λ h. refl)))))))))
+    gives (answer.Entry looked.entry) (λ h. refl))) session dir object.name object.ext.secctx)
+
+targeted_well : (kind : Kind) (next : RequestTree) → Yields next → Yields (targeted_as kind next)
+unfolding targeted
+targeted_well (Directory mode) next so = so
+targeted_well (Node mode rdev) next so = so
+targeted_well (Link target) next so =
+    checks (list_any is_nul target) (Gives (answer.Refused einval)) next (refuses_so einval) so
+
+makes_named : (plan : Plan) (seat : HostSeat) (object : ObjectAsked) (kind : Kind) →
+    Yields (begin (make_named plan seat object kind))
+makes_named plan seat object kind =
+    begins _ (λ session.
+    names object.name _ (
+    targeted_well kind _ (
+    one_file object.parent _ (λ dir. makes_kind plan seat session object kind dir))))
 
 pins : (handle number : ℕ) (next : Fd → RequestTree) → ((fd : Fd) → Yields (next fd)) →
     Yields (pin_handle handle number next)
 pins handle number next so =
-    asks (Changes (change.PinHandle handle number)) (on_pinned next) (λ h told. refl)
+    asks (Changes (change.PinHandle handle number)) (on pinned_in next) (λ h told. refl)
     (if_pinned P next refuses (λ row fd. so fd))
 
 counts : (asked : Call) (next : ℕ → RequestTree) → ((count : ℕ) → Yields (next count)) → Yields (count_of asked next)
-counts asked next so = asks (Calls asked) (on_count next) (λ h told. refl) (if_count P next refuses so)
+counts asked next so = asks (Calls asked) (on count_in next) (λ h told. refl) (if_count P next refuses so)
 
-syncs : (inode handle : ℕ) (datasync : Bool) → Yields (fsync inode handle datasync)
+syncs : (inode handle : ℕ) (datasync : Bool) → Yields (begin (fsync inode handle datasync))
 syncs inode handle datasync =
     begins _ (λ session. pins handle inode _ (λ fd. does (call.Sync fd datasync) _ (gives answer.Done (λ h. refl))))
 
-forgets : (list : List (ℕ × ℕ)) → Yields (batch_forget list)
+forgets : (list : List (ℕ × ℕ)) → Yields (begin (batch_forget list))
 forgets list = begins _ (λ session.
     dones (Changes (change.Forget list)) _ (λ h told. refl) (gives answer.NoReply (λ h. refl)))
 
-releases : (inode handle : ℕ) → Yields (release inode handle)
+releases : (inode handle : ℕ) → Yields (begin (release inode handle))
 releases inode handle = begins _ (λ session.
     dones (Changes (change.Release handle inode)) _ (λ h told. refl) (gives answer.Done (λ h. refl)))
 
-unserves : Yields unserved
+unserves : Yields (begin unserved)
 unserves = begins _ (λ session. refuses_so (errno_of 38))
 
 each_keeps : (plan : Plan) (seat : HostSeat) (who : Context) (asked : Request) → Yields (tree_of plan seat who asked)
@@ -269,7 +342,7 @@ each_keeps plan seat who request.Root =
     begins _ (λ session. opens_shared plan session None _ (gives answer.Done (λ h. refl)))
 each_keeps plan seat who (request.Lookup parent name) =
     begins _ (λ session.
-    checks (is_bad_name name) _ _ (refuses_so einval) (
+    names name _ (
     looks_up plan session parent name _ (λ looked. gives (answer.Entry looked.entry) (λ h. refl))))
 each_keeps plan seat who (request.Forget inode count) = forgets ((inode, count) ∷ [])
 each_keeps plan seat who (request.BatchForget list) = forgets list
@@ -280,18 +353,18 @@ each_keeps plan seat who (request.Release inode handle) = releases inode handle
 each_keeps plan seat who (request.ReleaseDir inode handle) = releases inode handle
 each_keeps plan seat who (request.Read inode handle size offset) =
     begins _ (λ session.
-    checks (is_bad_offset offset) _ _ (refuses_so einval) (
+    places offset _ (
     asks (Changes (change.PinHandle handle inode)) _ (λ h told. refl) (if_pinned P _ refuses (λ row fd.
     asks (Calls (call.ReadAt fd offset size)) _ (λ h told. refl) (if_bytes P _ refuses (λ bytes.
     gives (answer.Read bytes) (λ h. refl)))))))
 each_keeps plan seat who (request.Create parent name mode kill flags umask ext) =
     creates_it plan seat (file_asked who parent name mode kill flags ext)
 each_keeps plan seat who (request.Mkdir parent name mode umask ext) =
-    makes_named plan seat (object_asked who parent name ext (made.Directory mode))
+    makes_named plan seat (object_asked who parent name ext) (Directory mode)
 each_keeps plan seat who (request.Mknod parent name mode rdev umask ext) =
-    makes_named plan seat (object_asked who parent name ext (made.Node mode rdev))
+    makes_named plan seat (object_asked who parent name ext) (Node mode rdev)
 each_keeps plan seat who (request.Symlink target parent name ext) =
-    makes_named plan seat (object_asked who parent name ext (made.Link target))
+    makes_named plan seat (object_asked who parent name ext) (Link target)
 each_keeps plan seat who (request.Readlink inode) =
     begins _ (λ session.
     one_file inode _ (λ fd.
@@ -313,49 +386,49 @@ each_keeps plan seat who (request.Access inode mask) =
     stats fd _ (λ told. decides (is_granted who mask (attr_of plan told 0)))))
 each_keeps plan seat who (request.Unlink parent name) =
     begins _ (λ session.
-    checks (is_bad_name name) _ _ (refuses_so einval) (
+    names name _ (
     one_file parent _ (λ dir. does (call.Unlink dir name) _ (gives answer.Done (λ h. refl)))))
 each_keeps plan seat who (request.Rmdir parent name) =
     begins _ (λ session.
-    checks (is_bad_name name) _ _ (refuses_so einval) (
+    names name _ (
     one_file parent _ (λ dir. does (call.RemoveDir dir name) _ (gives answer.Done (λ h. refl)))))
 each_keeps plan seat who (request.Link inode newparent newname) =
     begins _ (λ session.
-    checks (is_bad_name newname) _ _ (refuses_so einval) (
-    both_files inode newparent _ (λ from dir.
-    does (call.MakeLink from dir newname) _ (
+    names newname _ (
+    both_files inode newparent _ (λ both.
+    does (call.MakeLink both.from both.to newname) _ (
     looks_up plan session newparent newname _ (λ looked. gives (answer.Entry looked.entry) (λ h. refl))))))
 each_keeps plan seat who (request.Rename olddir oldname newdir newname flags) =
     begins _ (λ session.
-    checks (is_bad_name oldname) _ _ (refuses_so einval) (
-    checks (is_bad_name newname) _ _ (refuses_so einval) (
-    both_files olddir newdir _ (λ from to.
-    does (call.Rename from oldname to newname flags) _ (gives answer.Done (λ h. refl))))))
+    names oldname _ (
+    names newname _ (
+    both_files olddir newdir _ (λ both.
+    does (call.Rename both.from oldname both.to newname flags) _ (gives answer.Done (λ h. refl))))))
 each_keeps plan seat who (request.SetAttr inode handle valid attr) =
     begins _ (λ session.
-    checks (is_missized valid attr) _ _ (refuses_so einval) (
+    sizes_well valid attr _ (
     resolves inode _ (λ row.
     files_set handle valid row _ (λ file.
-    targets inode handle file _ (λ target through.
-    does_if (sets_mode valid) (call.ChMod target through attr.mode) _ (
+    targets inode handle file _ (λ target.
+    does_if (sets_mode valid) (call.ChMod target.fd target.through attr.mode) _ (
     sets_owner plan valid attr file _ (
     sizes plan seat valid attr target _ (
     does_if (sets_atime valid || sets_mtime valid)
-    (call.SetTimes target through (atime_set valid attr) (mtime_set valid attr)) _ (
+    (call.SetTimes target.fd target.through (atime_set valid attr) (mtime_set valid attr)) _ (
     one_file inode _ (λ fd.
     stats fd _ (λ told.
     gives (answer.Attr (attr_of plan told 0) plan.config.attr_timeout) (λ h. refl))))))))))))
 each_keeps plan seat who (request.Write inode handle offset bytes delayed kill flags) =
     begins _ (λ session.
-    checks (is_bad_offset offset) _ _ (refuses_so einval) (
+    places offset _ (
     pins handle inode _ (λ fd.
     without (drops_fsetid plan seat kill) _ (
     counts (call.WriteAt fd offset bytes (appends delayed flags)) _ (λ count.
     bares _ (gives (answer.Wrote count) (λ h. refl)))))))
 each_keeps plan seat who (request.Fallocate inode handle mode offset length) =
     begins _ (λ session.
-    checks (is_bad_offset offset) _ _ (refuses_so einval) (
-    checks (is_bad_offset length) _ _ (refuses_so einval) (
+    places offset _ (
+    places length _ (
     pins handle inode _ (λ fd.
     does (call.Allocate fd mode offset length) _ (gives answer.Done (λ h. refl))))))
 each_keeps plan seat who (request.Lseek inode handle offset whence) =
@@ -364,9 +437,9 @@ each_keeps plan seat who (request.Lseek inode handle offset whence) =
     counts (call.Seek fd (cast_signed w64 offset) whence) _ (λ place. gives (answer.Offset place) (λ h. refl))))
 each_keeps plan seat who (request.CopyFileRange inode handle offset inode2 handle2 offset2 length flags) =
     begins _ (λ session.
-    checks (is_bad_offset offset) _ _ (refuses_so einval) (
-    checks (is_bad_offset offset2) _ _ (refuses_so einval) (
-    checks (is_bad_offset length) _ _ (refuses_so einval) (
+    places offset _ (
+    places offset2 _ (
+    places length _ (
     pins handle inode _ (λ from.
     pins handle2 inode2 _ (λ to.
     counts (call.CopyRange from offset to offset2 length flags) _ (λ count.

@@ -9,13 +9,12 @@ use Rattle.pt_host.specs.declared.reply.HostReply.TheVariants as host
 use Rattle.pt_iface.specs.declared.answer.Answer.TheVariants as answer
 use Rattle.pt_iface.specs.declared.request.SecContext.{SecContext}
 use Rattle.pt_frame.specs.Deed.{Calls, Step}
-use Rattle.pt_frame.specs.Tree.{RequestTree}
+use Rattle.pt_frame.specs.Tree.{RequestTree, on, go_on}
 use Rattle.pt_frame.specs.declared.act.ActReply.{ActReply}
 use Rattle.pt_frame.specs.declared.act.ActReply.TheVariants.{Event, Host, NoCopy}
 use Rattle.pt_frame.specs.declared.hold.Hold.{Hold}
 use Rattle.pt_req.specs.Attributes.{is_blocked}
-use Rattle.pt_req.specs.Creating.{labelled, undone}
-use Rattle.pt_req.specs.Steps.{set_xattr}
+use Rattle.pt_req.specs.Creating.{kept_with, label_set, labelled, undone}
 use Rattle.pt_req.specs.declared.begun.BegunSession.{BegunSession}
 use Rattle.pt_law.specs.Discipline.{KnowsAll, Notes}
 use Rattle.pt_law.specs.Keeps.{unscoped}
@@ -30,6 +29,7 @@ module _ (asked : Asking) (holds : List Hold) (marks : List ℕ) (notes : Notes)
     (k : KnowsAll (unscoped holds) (dir ∷ [])) (path : List Step) where
   fit_undone : (errno : Errno) → SomeShows asked path errno →
       Fit asked (undone (call.Unlink dir name) (answer.Refused errno)) holds marks notes path
+  unfolding on go_on
   fit_undone errno s = (
     (k, tt),
     elim [
@@ -40,6 +40,7 @@ module _ (asked : Asking) (holds : List Hold) (marks : List ℕ) (notes : Notes)
   )
 
   fit_ran_out : Fit asked (undone (call.Unlink dir name) answer.NoMemory) holds marks notes path
+  unfolding on go_on
   fit_ran_out = (
     (k, tt),
     elim [
@@ -49,16 +50,16 @@ module _ (asked : Asking) (holds : List Hold) (marks : List ℕ) (notes : Notes)
     ],
   )
 
-pub fit_labelled : {asked : Asking} {seen : List Seen} {holds : List Hold} {marks : List ℕ} {notes : Notes}
-    (session : BegunSession) (fd dir : Fd) (name : List ℕ) (label : Option SecContext) (next : RequestTree) →
+pub fit_label_set : {asked : Asking} {seen : List Seen} {holds : List Hold} {marks : List ℕ} {notes : Notes}
+    (session : BegunSession) (fd dir : Fd) (name : List ℕ) (brought : SecContext) (next : RequestTree) →
     KnowsAll (unscoped holds) (fd ∷ []) → KnowsAll (unscoped holds) (dir ∷ []) →
-    ((brought : SecContext) → label ≡ Some brought → is_blocked session.agreed brought.name ≡ true →
-    (path : List Step) → Told seen path → SomeShows asked path eopnotsupp) →
+    (is_blocked session.agreed brought.name ≡ true → (path : List Step) → Told seen path →
+    SomeShows asked path eopnotsupp) →
     FitOn asked seen next holds marks notes →
-    FitOn asked seen (labelled session fd (call.Unlink dir name) label next) holds marks notes
-fit_labelled session fd dir name None next k l c f = f
-fit_labelled {asked = asked} {seen = seen} {holds = holds} {marks = marks} {notes = notes} session fd dir name
-    (Some brought) next k l c f = go (is_blocked session.agreed brought.name) refl
+    FitOn asked seen (label_set session fd (call.Unlink dir name) brought next) holds marks notes
+unfolding label_set on go_on
+fit_label_set {asked = asked} {seen = seen} {holds = holds} {marks = marks} {notes = notes} session fd dir name
+    brought next k l c f = go (is_blocked session.agreed brought.name) refl
   where
     -- the step by which the context is set
     labelling : ActReply → Step
@@ -66,9 +67,9 @@ fit_labelled {asked = asked} {seen = seen} {holds = holds} {marks = marks} {note
 
     go : (bad : Bool) → is_blocked session.agreed brought.name ≡ bad →
         FitOn asked seen (if bad then undone (call.Unlink dir name) (answer.Refused eopnotsupp)
-        else set_xattr fd false brought.name brought.value 0 (undone (call.Unlink dir name)) next) holds marks notes
+        else kept_with fd (call.Unlink dir name) brought.name brought.value next) holds marks notes
     go true e = record {
-      on = λ path s. fit_undone asked holds marks notes dir name l path eopnotsupp (c brought refl e path s);
+      on = λ path s. fit_undone asked holds marks notes dir name l path eopnotsupp (c e path s);
     }
     go false e = record {
       on = λ path s. (
@@ -88,3 +89,14 @@ fit_labelled {asked = asked} {seen = seen} {holds = holds} {marks = marks} {note
         ],
       );
     }
+
+pub fit_labelled : {asked : Asking} {seen : List Seen} {holds : List Hold} {marks : List ℕ} {notes : Notes}
+    (session : BegunSession) (fd dir : Fd) (name : List ℕ) (label : Option SecContext) (next : RequestTree) →
+    KnowsAll (unscoped holds) (fd ∷ []) → KnowsAll (unscoped holds) (dir ∷ []) →
+    ((brought : SecContext) → label ≡ Some brought → is_blocked session.agreed brought.name ≡ true →
+    (path : List Step) → Told seen path → SomeShows asked path eopnotsupp) →
+    FitOn asked seen next holds marks notes →
+    FitOn asked seen (labelled session fd (call.Unlink dir name) label next) holds marks notes
+fit_labelled session fd dir name None next k l c f = f
+fit_labelled session fd dir name (Some brought) next k l c f =
+    fit_label_set session fd dir name brought next k l (c brought refl) f

@@ -7,6 +7,7 @@ pub mod Calling
 pub mod Joined
 pub mod Labelling
 pub mod Creating
+pub mod ObjectKinds
 pub mod Objects
 pub mod Setting
 pub mod Contents
@@ -21,6 +22,7 @@ pub mod Leading
 pub mod Looking
 pub mod Handling
 pub mod Still
+pub mod Coming
 pub mod Making
 pub mod ObjectEntries
 pub mod Entered

@@ -1,6 +1,6 @@
 -- A lookup that led to an entry, whatever request it is a part of and whatever follows it: its steps.
-use Rattle.std.proofs.Common.{◌≡◌, ◌⊎◌, inl, inr, ℕ, List, [], ◌∷◌, ◌++◌, Bool, true, false, None, refl, sym, ap}
-use Rattle.std.proofs.Common.{subst, ◌∙◌, if◌then◌else◌}
+use Rattle.std.proofs.Common.{◌≡◌, ◌⊎◌, inl, inr, ℕ, List, [], ◌∷◌, ◌++◌, Bool, true, false, Option, Some, None, refl}
+use Rattle.std.proofs.Common.{sym, ap, subst, ◌∙◌, if◌then◌else◌}
 use Rattle.pt_host.specs.Errno.{einval}
 use Rattle.pt_host.specs.declared.ids.Fd.{Fd}
 use Rattle.pt_host.specs.declared.ids.ObjIds.{ObjIds}
@@ -22,19 +22,21 @@ use Rattle.pt_iface.specs.declared.request.Request.TheVariants as request
 use Rattle.pt_frame.specs.Deed.{Deed, Calls, Changes, Step}
 use Rattle.pt_frame.specs.Grammar.{Belongs}
 use Rattle.pt_frame.specs.Replies.{passes_with}
-use Rattle.pt_frame.specs.Tree.{RequestTree, Gives, Shuts, framed}
+use Rattle.pt_frame.specs.Tree.{RequestTree, Gives, Shuts, framed, on, go_on}
 use Rattle.pt_frame.specs.declared.act.ActReply.{ActReply}
 use Rattle.pt_frame.specs.declared.act.ActReply.TheVariants.{Event, Host}
 use Rattle.pt_frame.specs.declared.finish.Finish.TheVariants as finish
 use Rattle.pt_frame.specs.declared.hold.Hold.{Hold}
 use Rattle.pt_req.specs.Entries.{is_bad_name}
-use Rattle.pt_req.specs.Parts.{by_path, named, file_of, numbered, looked_of, look_up}
-use Rattle.pt_req.specs.Steps.{session_of, on_began, Resolved, on_resolved, on_fd, on_stat, on_claim, on_taken}
-use Rattle.pt_req.specs.Steps.{on_drawn, on_inserted, resolve, open_at, stat, take_fd, draw_node, insert}
+use Rattle.pt_req.specs.Parts.{by_path, named, file_of, numbered_as, numbered, looked_of, look_up}
+use Rattle.pt_req.specs.Steps.{session_of, resolve, open_at, stat, draw_node, insert, began_in, drawn_in}
+use Rattle.pt_req.specs.Steps.{claimed_in}
+use Rattle.pt_req.specs.Steps.{fd_in, numbered_in, resolved_in, stat_in, taken_in}
+use Rattle.pt_req.specs.declared.replies.Resolved.{Resolved}
 use Rattle.pt_req.specs.declared.begun.BegunSession.{BegunSession}
 use Rattle.pt_req.specs.declared.parts.looked.Looked.{Looked}
 use Rattle.pt_req.specs.declared.plan.Plan.{Plan}
-use Rattle.pt_attr.specs.Pattern.{grammar_of}
+use Rattle.pt_job.specs.Pattern.{grammar_of}
 use Rattle.pt_law.specs.Naming.{made}
 use Rattle.pt_fit.specs.Opened.{inserting, InsertionGives, Numbers, IsLookedUp}
 use Rattle.pt_fit.proofs.Leading.{HasEntry, Leads, refused_none, given_none, shut_none, goes_on, none_told}
@@ -46,54 +48,61 @@ pub then_step : {deed : Deed} {told one : ActReply} {steps rest more : List Step
 then_step {deed = deed} e t r = e ∙ (λ i. made deed (t i) ∷ r i)
 
 pub began : (seat : HostSeat) (next : BegunSession → RequestTree) (told : ActReply) (rest : List Step)
-    (last : Answer) → HasEntry last → Leads seat (on_began next told) rest last →
+    (last : Answer) → HasEntry last → Leads seat (on began_in next told) rest last →
     (era : ℕ) × (agreed : Negotiated) × (told ≡ Event (event.Began era agreed))
     × Leads seat (next (session_of era agreed)) rest last
+unfolding on go_on
 began seat next (Event (event.Began era agreed)) rest last p a = (era, agreed, refl, a)
 began seat next told rest last p a = absurd (refused_none seat told rest last p a)
 
 pub resolved : (seat : HostSeat) (next : Resolved → RequestTree) (told : ActReply) (rest : List Step)
-    (last : Answer) → HasEntry last → Leads seat (on_resolved next told) rest last →
+    (last : Answer) → HasEntry last → Leads seat (on resolved_in next told) rest last →
     (row : ℕ) × (form : RowForm) × (ids : ObjIds) × (mode : ℕ) × (told ≡ Event (event.Resolved row form ids mode))
     × Leads seat (next (record { row = row; form = form; ids = ids; mode = mode })) rest last
+unfolding on go_on
 resolved seat next (Event (event.Resolved row form ids mode)) rest last p a = (row, form, ids, mode, refl, a)
 resolved seat next told rest last p a = absurd (refused_none seat told rest last p a)
 
 opened : (seat : HostSeat) (next : Fd → RequestTree) (told : ActReply) (rest : List Step) (last : Answer) →
-    HasEntry last → Leads seat (on_fd next told) rest last →
+    HasEntry last → Leads seat (on fd_in next told) rest last →
     (fd : Fd) × (told ≡ Host (host.Ok (value.Fd fd))) × Leads seat (next fd) rest last
+unfolding on go_on
 opened seat next (Host (host.Ok (value.Fd fd))) rest last p a = (fd, refl, a)
 opened seat next told rest last p a = absurd (refused_none seat told rest last p a)
 
 pub stated : (seat : HostSeat) (next : Stat → RequestTree) (told : ActReply) (rest : List Step) (last : Answer) →
-    HasEntry last → Leads seat (on_stat next told) rest last →
+    HasEntry last → Leads seat (on stat_in next told) rest last →
     (was : Stat) × (told ≡ Host (host.Ok (value.Stat was))) × Leads seat (next was) rest last
+unfolding on go_on
 stated seat next (Host (host.Ok (value.Stat was))) rest last p a = (was, refl, a)
 stated seat next told rest last p a = absurd (refused_none seat told rest last p a)
 
-claimed : (seat : HostSeat)
-    (next : ℕ → RequestTree) (absent : RequestTree) (told : ActReply) (rest : List Step) (last : Answer) →
-    HasEntry last → Leads seat (on_claim next absent told) rest last →
-    ((number : ℕ) × (told ≡ Event (event.Claimed number)) × Leads seat (next number) rest last)
-    ⊎ ((told ≡ Event event.Absent) × Leads seat absent rest last)
-claimed seat next absent (Event (event.Claimed number)) rest last p a = inl (number, refl, a)
-claimed seat next absent (Event event.Absent) rest last p a = inr (refl, a)
-claimed seat next absent told rest last p a = absurd (refused_none seat told rest last p a)
+claimed : (seat : HostSeat) (next : Option ℕ → RequestTree) (told : ActReply) (rest : List Step) (last : Answer) →
+    HasEntry last → Leads seat (on claimed_in next told) rest last →
+    ((number : ℕ) × (told ≡ Event (event.Claimed number)) × Leads seat (next (Some number)) rest last)
+    ⊎ ((told ≡ Event event.Absent) × Leads seat (next None) rest last)
+unfolding on go_on
+claimed seat next (Event (event.Claimed number)) rest last p a = inl (number, refl, a)
+claimed seat next (Event event.Absent) rest last p a = inr (refl, a)
+claimed seat next told rest last p a = absurd (refused_none seat told rest last p a)
 
 taken : (seat : HostSeat) (next : RequestTree) (told : ActReply) (rest : List Step) (last : Answer) → HasEntry last →
-    Leads seat (on_taken next told) rest last → (told ≡ Event event.Taken) × Leads seat next rest last
+    Leads seat (on taken_in (λ done. next) told) rest last → (told ≡ Event event.Taken) × Leads seat next rest last
+unfolding on go_on
 taken seat next (Event event.Taken) rest last p a = (refl, a)
 taken seat next told rest last p a = absurd (refused_none seat told rest last p a)
 
 drawn : (seat : HostSeat) (next : ℕ → RequestTree) (told : ActReply) (rest : List Step) (last : Answer) →
-    HasEntry last → Leads seat (on_drawn next told) rest last →
+    HasEntry last → Leads seat (on drawn_in next told) rest last →
     (number : ℕ) × (told ≡ Event (event.Drawn number)) × Leads seat (next number) rest last
+unfolding on go_on
 drawn seat next (Event (event.Drawn number)) rest last p a = (number, refl, a)
 drawn seat next told rest last p a = absurd (refused_none seat told rest last p a)
 
 inserted : (seat : HostSeat) (next : ℕ → RequestTree) (told : ActReply) (rest : List Step) (last : Answer) →
-    HasEntry last → Leads seat (on_inserted next told) rest last →
+    HasEntry last → Leads seat (on numbered_in next told) rest last →
     (number : ℕ) × InsertionGives number told × Leads seat (next number) rest last
+unfolding on go_on
 inserted seat next (Event (event.Inserted number)) rest last p a = (number, inl refl, a)
 inserted seat next (Event (event.Found number)) rest last p a = (number, inr refl, a)
 inserted seat next told rest last p a = absurd (refused_none seat told rest last p a)
@@ -118,12 +127,14 @@ record Gave
 gave : (seat : HostSeat) (session : BegunSession) (fd : Fd) (told : Stat) (next : ℕ → RequestTree) (steps : List Step)
     (last : Answer) → HasEntry last → Leads seat (numbered session (File fd) told next) steps last →
     Gave seat session fd told next steps last
+unfolding on go_on
 gave seat session fd told next steps last p a =
     let inserts : ℕ → RequestTree = λ fresh. insert session fresh (File fd) told next in
+    let given : Option ℕ → RequestTree = λ given. numbered_as session (File fd) told given next in
     let asks = change.Claim session.era None told.ids in
-    let c = goes_on seat (Changes asks) (on_claim next (take_fd (draw_node inserts))) steps last refl
+    let c = goes_on seat (Changes asks) (on claimed_in given) steps last refl
     (none_told asks (λ t. refl)) p a in
-    elim (claimed seat next (take_fd (draw_node inserts)) c.told c.rest last p c.on) [
+    elim (claimed seat given c.told c.rest last p c.on) [
       | inl k ↦ record {
         number = k.0;
         own = made (Changes asks) (Event (event.Claimed k.0)) ∷ [];
@@ -133,14 +144,14 @@ gave seat session fd told next steps last p a =
         on = k.2;
       }
       | inr k ↦
-          let t = goes_on seat (Changes change.TakeFd) (on_taken (draw_node inserts)) c.rest last refl
+          let t = goes_on seat (Changes change.TakeFd) (on taken_in (λ done. draw_node inserts)) c.rest last refl
           (none_told change.TakeFd (λ t. refl)) p k.1 in
           let slot = taken seat (draw_node inserts) t.told t.rest last p t.on in
-          let d = goes_on seat (Changes change.DrawNode) (on_drawn inserts) t.rest last refl
+          let d = goes_on seat (Changes change.DrawNode) (on drawn_in inserts) t.rest last refl
           (none_told change.DrawNode (λ t. refl)) p slot.1 in
           let fresh = drawn seat inserts d.told d.rest last p d.on in
           let adds = change.Insert session.era fresh.0 (File fd) told.ids told.mode in
-          let i = goes_on seat (Changes adds) (on_inserted next) d.rest last refl (none_told adds (λ t. refl)) p
+          let i = goes_on seat (Changes adds) (on numbered_in next) d.rest last refl (none_told adds (λ t. refl)) p
           fresh.2 in
           let given = inserted seat next i.told i.rest last p i.on in record {
             number = given.0;
@@ -154,7 +165,7 @@ gave seat session fd told next steps last p a =
 
 -- what follows the number, the status, the opening and the parent
 abbrev handing : Plan → BegunSession → ObjIds → (Looked → RequestTree) → Fd → Stat → ℕ → RequestTree
-handing plan session ids next fd told number = Shuts true (next (looked_of plan session ids told (File fd) number))
+handing plan session ids next fd told number = Shuts true (next (looked_of plan session ids told number))
 
 abbrev numbering : Plan → BegunSession → ObjIds → (Looked → RequestTree) → Fd → Stat → RequestTree
 numbering plan session ids next fd told = numbered session (File fd) told (handing plan session ids next fd told)
@@ -192,9 +203,10 @@ pub looks : (seat : HostSeat) (plan : Plan) (session : BegunSession) (parent : �
     (next : Looked → RequestTree) (steps : List Step) (last : Answer) → HasEntry last →
     Leads seat (look_up plan session parent name next) steps last →
     Looks seat plan session parent name next steps last
+unfolding on go_on look_up
 looks seat plan session parent name next steps last p a =
     let asks = change.Resolve parent in
-    let r = goes_on seat (Changes asks) (on_resolved (resolving plan session name next)) steps last refl
+    let r = goes_on seat (Changes asks) (on resolved_in (resolving plan session name next)) steps last refl
     (none_told asks (λ t. refl)) p
     (in_bracket seat (resolve parent (resolving plan session name next)) steps last a) in
     let k = resolved seat (resolving plan session name next) r.told r.rest last p r.on in
@@ -205,15 +217,15 @@ looks seat plan session parent name next steps last p a =
         Leads seat (file_of form (opening plan session ids name next)) rest last →
         Looks seat plan session parent name next steps last
     go row (File dir) ids mode rest e a =
-        let o = goes_on seat (Calls (call.OpenAt dir name by_path 0)) (on_fd (stating plan session ids next)) rest
+        let o = goes_on seat (Calls (call.OpenAt dir name by_path 0)) (on fd_in (stating plan session ids next)) rest
         last refl (λ t. refl) p a in
         let fd = opened seat (stating plan session ids next) o.told o.rest last p o.on in
-        let s = goes_on seat (Calls (call.Stat fd.0)) (on_stat (numbering plan session ids next fd.0)) o.rest last
+        let s = goes_on seat (Calls (call.Stat fd.0)) (on stat_in (numbering plan session ids next fd.0)) o.rest last
         refl (λ t. refl) p fd.2 in
         let was = stated seat (numbering plan session ids next fd.0) s.told s.rest last p s.on in
         let given = gave seat session fd.0 was.0 (handing plan session ids next fd.0 was.0) s.rest last p was.2 in
         record {
-          looked = looked_of plan session ids was.0 (File fd.0) given.number;
+          looked = looked_of plan session ids was.0 given.number;
           own = made (Changes (change.Resolve parent)) (Event (event.Resolved row (File dir) ids mode))
               ∷ made (Calls (call.OpenAt dir name by_path 0)) (Host (host.Ok (value.Fd fd.0)))
               ∷ made (Calls (call.Stat fd.0)) (Host (host.Ok (value.Stat was.0))) ∷ given.own;
@@ -257,6 +269,11 @@ good_name seat true next steps last p a =
     ap passes_with (sym (given_none seat (answer.Refused einval) last steps p a)) ∙ p in absurd (cc)
 good_name seat false next steps last p a = a
 
+pub good_named : (seat : HostSeat) (name : List ℕ) (next : RequestTree) (steps : List Step) (last : Answer) →
+    HasEntry last → Leads seat (named name next) steps last → Leads seat next steps last
+unfolding named
+good_named seat name next steps last p a = good_name seat (is_bad_name name) next steps last p a
+
 -- a lookup that is answered with an entry begins, looks up, and then gives back
 pub looked_up : (plan : Plan) (seat : HostSeat) (who : Context) (parent : ℕ) (name : List ℕ) (entry : Entry)
     (steps : List Step) →
@@ -264,15 +281,16 @@ pub looked_up : (plan : Plan) (seat : HostSeat) (who : Context) (parent : ℕ) (
     (era : ℕ) × (agreed : Negotiated) × (own : List Step) × (back : List Step)
     × (steps ≡ made (Changes change.Begin) (Event (event.Began era agreed)) ∷ (own ++ back))
     × IsLookedUp plan era agreed parent name entry own
+unfolding on go_on
 looked_up plan seat who parent name entry steps b =
     let next : Looked → RequestTree = λ looked. Gives (answer.Entry looked.entry) in
     let begins : BegunSession → RequestTree = λ session. named name (look_up plan session parent name next) in
-    let g = goes_on seat (Changes change.Begin) (on_began begins) steps (answer.Entry entry) refl
+    let g = goes_on seat (Changes change.Begin) (on began_in begins) steps (answer.Entry entry) refl
     (none_told change.Begin (λ t. refl)) refl (record { holds = []; marks = []; belongs = b }) in
     let k = began seat begins g.told g.rest (answer.Entry entry) refl g.on in
     let this = session_of k.0 k.1 in
     let l = looks seat plan this parent name next g.rest (answer.Entry entry) refl
-    (good_name seat (is_bad_name name) (look_up plan this parent name next) g.rest (answer.Entry entry) refl k.3) in
+    (good_named seat name (look_up plan this parent name next) g.rest (answer.Entry entry) refl k.3) in
     let same : l.looked.entry ≡ entry =
     same_entry (shut_none seat (answer.Entry l.looked.entry) (answer.Entry entry) l.rest refl l.on) in (
       k.0,

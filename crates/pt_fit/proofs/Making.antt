@@ -3,8 +3,7 @@
 use Rattle.std.proofs.Common.{◌≡◌, ◌⊎◌, inl, inr, ◌++◌, ◌∷◌, ◌∙◌, ◌&&◌, [], if◌then◌else◌, ℕ, Bool, List, None}
 use Rattle.std.proofs.Common.{Option, Some, ap, append_assoc, false, refl, subst, sym, true}
 use Rattle.pt_host.specs.Call.{Call}
-use Rattle.pt_host.specs.Errno.{eopnotsupp, eperm}
-use Rattle.pt_host.specs.Sorts.{sort_of}
+use Rattle.pt_host.specs.Errno.{eperm}
 use Rattle.pt_host.specs.Words.{Each}
 use Rattle.pt_host.specs.declared.flags.OpenFlags.{OpenFlags}
 use Rattle.pt_host.specs.declared.ids.Fd.{Fd}
@@ -15,7 +14,7 @@ use Rattle.pt_host.specs.declared.reply.HostValue.TheVariants as value
 use Rattle.pt_host.specs.declared.seat.HostSeat.{HostSeat}
 use Rattle.pt_host.specs.declared.stat.Stat.{Stat}
 use Rattle.pt_creds.specs.Identity.{Credentials}
-use Rattle.pt_creds.specs.Steps.{calls_of, cred_steps}
+use Rattle.pt_creds.specs.Steps.{cred_steps}
 use Rattle.pt_session.specs.declared.event.KeptEvent.TheVariants as change
 use Rattle.pt_session.specs.declared.form.Negotiated.{Negotiated}
 use Rattle.pt_session.specs.declared.form.RowForm.{RowForm}
@@ -28,144 +27,47 @@ use Rattle.pt_iface.specs.declared.flags.OpenOptions.{OpenOptions}
 use Rattle.pt_iface.specs.declared.request.Context.{Context}
 use Rattle.pt_iface.specs.declared.request.Extensions.{Extensions}
 use Rattle.pt_iface.specs.declared.request.Request.TheVariants as request
-use Rattle.pt_iface.specs.declared.request.SecContext.{SecContext}
 use Rattle.pt_frame.specs.Deed.{Calls, Changes, Deed, IsStepOf, Step}
 use Rattle.pt_frame.specs.Grammar.{Belongs}
 use Rattle.pt_frame.specs.Replies.{passes_with}
-use Rattle.pt_frame.specs.Tree.{Bares, Gives, Refuses, RequestTree, Shuts}
+use Rattle.pt_frame.specs.Tree.{Bares, RequestTree, Shuts, on, go_on}
 use Rattle.pt_frame.specs.declared.act.ActReply.{ActReply}
-use Rattle.pt_frame.specs.declared.act.ActReply.TheVariants.{Event, Host, NoCopy}
+use Rattle.pt_frame.specs.declared.act.ActReply.TheVariants.{Event, Host}
 use Rattle.pt_frame.specs.declared.finish.Finish.TheVariants as finish
-use Rattle.pt_frame.specs.declared.hold.Hold.TheVariants as hold
-use Rattle.pt_req.specs.Asker.{as_asker, asker_of, taken_on}
-use Rattle.pt_req.specs.Attributes.{is_blocked}
-use Rattle.pt_req.specs.Creating.{are_same, handled, if_same, labelled, make_file, named_handle, new_file, old_file}
-use Rattle.pt_req.specs.Creating.{takes_old, undone}
-use Rattle.pt_req.specs.Entries.{is_bad_name}
+use Rattle.pt_req.specs.Asker.{as_asker, asker_of}
+use Rattle.pt_req.specs.Creating.{FileAsked, if_same, labelled, made_file, make_file}
+use Rattle.pt_req.specs.Creating.{named_handle, new_file, old_file, takes_old}
 use Rattle.pt_req.specs.Options.{making_flags}
-use Rattle.pt_req.specs.Parts.{file_of, look_up, named, open_num}
+use Rattle.pt_req.specs.Parts.{file_of, handled, look_up, named, open_num}
 use Rattle.pt_req.specs.Requests.{file_asked}
-use Rattle.pt_req.specs.Steps.{Resolved, begin, is_there, make_at, on_began, on_made, on_ok_or, on_resolved, on_set}
-use Rattle.pt_req.specs.Steps.{on_stat, on_tried, resolve, session_of, set_xattr}
+use Rattle.pt_req.specs.Steps.{begin, began_in, is_there, made_in, make_at}
+use Rattle.pt_req.specs.Steps.{resolve, resolved_in, session_of, stat_in}
+use Rattle.pt_req.specs.declared.replies.Resolved.{Resolved}
 use Rattle.pt_req.specs.declared.begun.BegunSession.{BegunSession}
-use Rattle.pt_req.specs.declared.parts.asked.FileAsked.{FileAsked}
+use Rattle.pt_req.specs.declared.replies.Made.{Made}
+use Rattle.pt_req.specs.declared.replies.Made.TheVariants.{Old}
 use Rattle.pt_req.specs.declared.parts.looked.Looked.{Looked}
 use Rattle.pt_req.specs.declared.plan.Plan.{Plan}
-use Rattle.pt_attr.specs.Pattern.{grammar_of}
+use Rattle.pt_job.specs.Pattern.{grammar_of}
 use Rattle.pt_law.specs.Making.{MakesNew, stating}
 use Rattle.pt_law.specs.Naming.{made, opening, resolving}
 use Rattle.pt_fit.specs.Created.{MakesNone}
 use Rattle.pt_fit.specs.Opened.{IsLookedUp}
+use Rattle.pt_fit.proofs.Coming.{Comes, bare_comes, labelled_comes, taken_comes}
 use Rattle.pt_fit.proofs.Creating.{same_ids}
 use Rattle.pt_req.proofs.Flags.{creates, excludes}
-use Rattle.pt_fit.proofs.Handling.{Inserted, InsertedNew, answers, each_join, inserted_in, inserted_new}
+use Rattle.pt_fit.proofs.Handling.{Inserted, InsertedNew, answers, each_join, inserted_by, inserted_new}
 use Rattle.pt_fit.proofs.Handling.{opened_num_along, same_along}
-use Rattle.pt_fit.proofs.Leading.{HasEntry, IsStill, Leads, StillSort, bares_on, calls_on, given_none, goes_on}
-use Rattle.pt_fit.proofs.Leading.{none_told, on_branch, opens_on, refused_none, replied}
-use Rattle.pt_fit.proofs.Looking.{began, good_name, looks, resolved, stated, then_step}
-use Rattle.pt_fit.proofs.Still.{still_set, all_still_make, unmade}
-
--- By some still steps the job comes to this tree.
-pub record Comes (seat : HostSeat) (last : Answer) (tree : RequestTree) (steps : List Step) : Type 0 where
-  pub front : List Step
-  pub rest : List Step
-  pub are : steps ≡ front ++ rest
-  pub still : Each (λ (step : Step). IsStill step.deed) front
-  pub on : Leads seat tree rest last
-
-module _ (seat : HostSeat) (last : Answer) (p : HasEntry last) where
-  comes_now : (tree : RequestTree) (steps : List Step) → Leads seat tree steps last → Comes seat last tree steps
-  comes_now tree steps l = record { front = []; rest = steps; are = refl; still = tt; on = l }
-
-  comes_more : (tree : RequestTree) (step : Step) (steps : List Step) → IsStill step.deed →
-      Comes seat last tree steps → Comes seat last tree (step ∷ steps)
-  comes_more tree step steps still c = record {
-    front = step ∷ c.front;
-    rest = c.rest;
-    are = ap (λ (z : List Step). step ∷ z) c.are;
-    still = (still, c.still);
-    on = c.on;
-  }
-
-  -- the ends of scopes
-  pub bare_comes : (tree : RequestTree) (steps : List Step) → Leads seat (Bares tree) steps last →
-      Comes seat last tree steps
-  bare_comes tree steps l =
-      bares_on seat last p (Comes seat last tree) (comes_more tree) tree steps (comes_now tree) l
-
-  -- the calls by which an identity is taken on
-  pub set_on : (next : RequestTree) (told : ActReply) (rest : List Step) → Leads seat (on_set next told) rest last →
-      Leads seat next rest last
-  set_on next (Host (host.Ok answered)) rest l = l
-  set_on next told rest l = absurd (refused_none seat told rest last p l)
-
-  pub tried_on : (next : RequestTree) (told : ActReply) (rest : List Step) →
-      Leads seat (on_tried next told) rest last → Leads seat next rest last
-  tried_on next (Host answered) rest l = l
-  tried_on next told rest l = absurd (refused_none seat told rest last p l)
-
-  pub taken_comes : (calls : List Call) (next : RequestTree) (steps : List Step) →
-      Each (λ (asked : Call). StillSort (sort_of asked)) calls → Leads seat (taken_on calls next) steps last →
-      Comes seat last next steps
-  taken_comes [] next steps s l = comes_now next steps l
-  taken_comes (call.SetGroups list ∷ calls) next steps s l =
-      opens_on seat last p (Comes seat last next) (comes_more next) (call.SetGroups list) hold.Groups
-      (on_set (taken_on calls next)) steps tt
-      (λ told rest m. taken_comes calls next rest s.1 (set_on (taken_on calls next) told rest m)) l
-  taken_comes (call.SetEgid gid ∷ calls) next steps s l =
-      opens_on seat last p (Comes seat last next) (comes_more next) (call.SetEgid gid) hold.EffectiveGid
-      (on_set (taken_on calls next)) steps tt
-      (λ told rest m. taken_comes calls next rest s.1 (set_on (taken_on calls next) told rest m)) l
-  taken_comes (call.SetEuid uid ∷ calls) next steps s l =
-      opens_on seat last p (Comes seat last next) (comes_more next) (call.SetEuid uid) hold.EffectiveUid
-      (on_set (taken_on calls next)) steps tt
-      (λ told rest m. taken_comes calls next rest s.1 (set_on (taken_on calls next) told rest m)) l
-  taken_comes (asked ∷ calls) next steps s l =
-      calls_on seat last p (Comes seat last next) (comes_more next) asked (on_tried (taken_on calls next)) steps s.0
-      (λ told rest m. taken_comes calls next rest s.1 (tried_on (taken_on calls next) told rest m)) l
-
--- The context of what was made comes first.
-module _ (seat : HostSeat) (last : Answer) (p : HasEntry last) (session : BegunSession) (fd dir : Fd) (name : List ℕ)
-    (next : RequestTree) where
-  abbrev undoing : Call
-  undoing = call.Unlink dir name
-
-  -- where what was made goes again, no entry is answered
-  undone_comes : (given : Answer) → passes_with given ≡ false → (steps : List Step) →
-      Leads seat (undone undoing given) steps last → Comes seat last next steps
-  undone_comes given none steps l =
-      calls_on seat last p (Comes seat last next) (comes_more seat last p next) undoing (on_tried (Gives given)) steps
-      tt (λ told rest m.
-      let l : Leads seat (Gives given) rest last = tried_on seat last p (Gives given) told rest m in
-      let some : passes_with given ≡ true = ap passes_with (sym (given_none seat given last rest p l)) ∙ p in
-      absurd (cc)) l
-
-  labelled_comes : (label : Option SecContext) (steps : List Step) →
-      Leads seat (labelled session fd undoing label next) steps last → Comes seat last next steps
-  labelled_comes None steps l = comes_now seat last p next steps l
-  labelled_comes (Some label) steps l = go (is_blocked session.agreed label.name) l
-    where
-      told_so : (told : ActReply) (rest : List Step) → Leads seat (on_ok_or (undone undoing) next told) rest last →
-          Comes seat last next rest
-      told_so (Host (host.Ok got)) rest m = comes_now seat last p next rest m
-      told_so (Host (host.Refused errno)) rest m = undone_comes (answer.Refused errno) refl rest m
-      told_so (Host (host.Fault errno)) rest m = undone_comes (answer.Refused errno) refl rest m
-      told_so (Host host.NoMemory) rest m = undone_comes answer.NoMemory refl rest m
-      told_so NoCopy rest m = undone_comes answer.NoMemory refl rest m
-      told_so (Event got) rest m = absurd (refused_none seat (Event got) rest last p m)
-
-      go : (bad : Bool) → Leads seat (if bad then undone undoing (answer.Refused eopnotsupp)
-          else set_xattr fd false label.name label.value 0 (undone undoing) next) steps last →
-          Comes seat last next steps
-      go true m = undone_comes (answer.Refused eopnotsupp) refl steps m
-      go false m =
-          calls_on seat last p (Comes seat last next) (comes_more seat last p next)
-          (call.SetXattr fd false label.name label.value 0) (on_ok_or (undone undoing) next) steps tt told_so m
+use Rattle.pt_fit.proofs.Leading.{HasEntry, IsStill, Leads, given_none, goes_on}
+use Rattle.pt_fit.proofs.Leading.{none_told, on_branch, refused_none, replied}
+use Rattle.pt_fit.proofs.Looking.{began, good_named, looks, resolved, stated, then_step}
+use Rattle.pt_fit.proofs.Still.{all_still_make, unmade}
 
 -- what follows a lookup of what was made, and of what was there
 abbrev then_handled : Plan → BegunSession → Fd → Stat → Looked → RequestTree
 then_handled plan session fd stat looked =
-    if_same stat.ids looked.ids (handled session fd looked.entry (answers plan))
+    if_same stat.ids looked.ids (handled session looked.entry.inode fd (λ handle.
+    answers plan (named_handle looked.entry handle)))
 
 abbrev then_opened : Plan → HostSeat → BegunSession → FileAsked → Looked → RequestTree
 then_opened plan seat session asked looked =
@@ -226,25 +128,23 @@ record FoundOld
 
 module _ (plan : Plan) (seat : HostSeat) (session : BegunSession) (asked : FileAsked) (last : Answer)
     (p : HasEntry last) where
-  abbrev New : Fd → Fd → RequestTree
-  New dir fd = new_file plan session asked dir fd (answers plan)
-
-  abbrev Old : RequestTree
-  Old = old_file plan seat session asked (answers plan)
+  abbrev new_tree : Fd → Fd → RequestTree
+  new_tree dir fd = new_file plan session asked dir fd (answers plan)
 
   abbrev Ways : List Step → Type 0
   Ways steps = MadeNew plan seat session asked last steps ⊎ FoundOld plan seat session asked last steps
 
-  new_found : (dir fd : Fd) (steps : List Step) → Comes seat last (New dir fd) steps →
+  new_found : (dir fd : Fd) (steps : List Step) → Comes seat last (new_tree dir fd) steps →
       NewFile plan seat session asked last fd steps
+  unfolding on go_on new_file
   new_found dir fd steps c =
       let looking : Stat → RequestTree =
       λ stat. look_up plan session asked.parent asked.name (then_handled plan session fd stat) in
       let behind : Stat → RequestTree =
-      λ stat. labelled session fd (call.Unlink dir asked.name) asked.secctx (looking stat) in
-      let s = goes_on seat (Calls (call.Stat fd)) (on_stat behind) c.rest last refl (λ t. refl) p c.on in
+      λ stat. labelled session fd (call.Unlink dir asked.name) asked.ext.secctx (looking stat) in
+      let s = goes_on seat (Calls (call.Stat fd)) (on stat_in behind) c.rest last refl (λ t. refl) p c.on in
       let was = stated seat behind s.told s.rest last p s.on in
-      let l = labelled_comes seat last p session fd dir asked.name (looking was.0) asked.secctx s.rest was.2 in
+      let l = labelled_comes seat last p session fd dir asked.name (looking was.0) asked.ext.secctx s.rest was.2 in
       record {
         stat = was.0;
         to_stat = c.front;
@@ -256,21 +156,26 @@ module _ (plan : Plan) (seat : HostSeat) (session : BegunSession) (asked : FileA
         on = l.on;
       }
 
-  old_found : (did : Option Deed) (told : ActReply) (there : Bool) (rest : List Step) → MakesNone did told →
-      Comes seat last (if there then Old else Refuses told) rest →
+  abbrev file_made : Fd → Made → RequestTree
+  file_made dir it = made_file plan seat session asked dir it (answers plan)
+
+  old_found : (dir : Fd) (did : Option Deed) (told : ActReply) (there : Bool) (rest : List Step) →
+      MakesNone did told →
+      Comes seat last (go_on (file_made dir) told (if there then Some Old else None)) rest →
       FoundOld plan seat session asked last (record { deed = did; reply = told } ∷ rest)
-  old_found did told true rest none c = record {
+  unfolding go_on old_file
+  old_found dir did told true rest none c = record {
     front = record { deed = did; reply = told } ∷ c.front;
     rest = c.rest;
     are = ap (λ (z : List Step). record { deed = did; reply = told } ∷ z) c.are;
     makes_none = (none, all_still_make c.front c.still);
     on = c.on;
   }
-  old_found did told false rest none c = absurd (refused_none seat told c.rest last p c.on)
+  old_found dir did told false rest none c = absurd (refused_none seat told c.rest last p c.on)
 
   -- the making, as whoever asks
   abbrev told_made : Fd → ActReply → RequestTree
-  told_made dir told = on_made (New dir) (takes_old asked) Old told
+  told_made dir told = on (made_in (takes_old asked.flags)) (file_made dir) told
 
   abbrev making : Fd → Call
   making dir = call.OpenAt dir asked.name (making_flags asked.flags) asked.mode
@@ -285,31 +190,33 @@ module _ (plan : Plan) (seat : HostSeat) (session : BegunSession) (asked : FileA
   made_or_not : (dir : Fd) (did : Option Deed) (told : ActReply) (rest : List Step) →
       IsStepOf (Calls (making dir)) did told → Leads seat (Bares (told_made dir told)) rest last →
       Gave dir (record { deed = did; reply = told }) rest
+  unfolding on go_on
   made_or_not dir (Some same) (Host (host.Ok (value.Fd fd))) rest i l =
       inl (
         fd,
         ap (λ (d : Deed). made d (Host (host.Ok (value.Fd fd))) ∷ rest) i,
-        new_found dir fd rest (bare_comes seat last p (New dir fd) rest l),
+        new_found dir fd rest (bare_comes seat last p (new_tree dir fd) rest l),
       )
   made_or_not dir None (Host (host.Ok (value.Fd fd))) rest i l = absurd i
   made_or_not dir did (Host (host.Refused errno)) rest i l =
       let told = Host (host.Refused errno) in
-      inr (old_found did told (is_there told && takes_old asked) rest
+      inr (old_found dir did told (is_there told && takes_old asked.flags) rest
       (unmade dir asked.name (making_flags asked.flags) asked.mode did told i tt)
       (bare_comes seat last p (told_made dir told) rest l))
   made_or_not dir did (Host (host.Fault errno)) rest i l =
       let told = Host (host.Fault errno) in
-      inr (old_found did told (is_there told && takes_old asked) rest
+      inr (old_found dir did told (is_there told && takes_old asked.flags) rest
       (unmade dir asked.name (making_flags asked.flags) asked.mode did told i tt)
       (bare_comes seat last p (told_made dir told) rest l))
   made_or_not dir did told rest i l =
-      inr (old_found did told (is_there told && takes_old asked) rest
+      inr (old_found dir did told (is_there told && takes_old asked.flags) rest
       (unmade dir asked.name (making_flags asked.flags) asked.mode did told i tt)
       (bare_comes seat last p (told_made dir told) rest l))
 
   making_found : (dir : Fd) (steps : List Step) →
-      Comes seat last (make_at dir asked.name (making_flags asked.flags) asked.mode (New dir) (takes_old asked) Old)
-      steps → Ways steps
+      Comes seat last
+      (make_at dir asked.name (making_flags asked.flags) asked.mode (takes_old asked.flags) (file_made dir)) steps →
+      Ways steps
   making_found dir steps c =
       let r = replied seat (making dir) (λ told. Bares (told_made dir told)) c.rest last p c.on in
       elim (made_or_not dir r.did r.told r.rest r.is r.on) [
@@ -336,14 +243,24 @@ module _ (plan : Plan) (seat : HostSeat) (session : BegunSession) (asked : FileA
 
   asker_found : (asker : Option Credentials) (dir : Fd) (steps : List Step) →
       Leads seat (as_asker seat asker
-      (make_at dir asked.name (making_flags asked.flags) asked.mode (New dir) (takes_old asked) Old)) steps last →
-      Ways steps
+      (make_at dir asked.name (making_flags asked.flags) asked.mode (takes_old asked.flags) (file_made dir))) steps
+      last → Ways steps
   asker_found None dir steps l =
       let no : passes_with (answer.Refused eperm) ≡ true =
       ap passes_with (sym (given_none seat (answer.Refused eperm) last steps p l)) ∙ p in absurd (cc)
   asker_found (Some creds) dir steps l =
-      making_found dir steps (taken_comes seat last p (calls_of (cred_steps creds seat)) _ steps
-      (still_set (cred_steps creds seat)) l)
+      making_found dir steps (taken_comes seat last p (cred_steps creds seat)
+      (make_at dir asked.name (making_flags asked.flags) asked.mode (takes_old asked.flags) (file_made dir)) steps l)
+
+module _ (plan : Plan) (seat : HostSeat) (session : BegunSession) (asked : FileAsked) (last : Answer)
+    (p : HasEntry last) where
+  -- so it is of the request
+  file_found : (dir : Fd) (steps : List Step) →
+      Leads seat (make_file plan seat session asked dir (answers plan)) steps last →
+      Ways plan seat session asked last p steps
+  unfolding make_file
+  file_found dir steps l =
+      asker_found plan seat session asked last p (asker_of plan session asked.who asked.ext.sup_gid) dir steps l
 
 -- The file was made by these steps before the lookup, and behind it got the handle; what was looked up has its ids.
 pub record NewWay
@@ -421,8 +338,8 @@ module _ (plan : Plan) (seat : HostSeat) (session : BegunSession) (asked : FileA
       created refl file.on in
       let way = on_branch seat (Shuts true (then_handled plan session n.fd file.stat found.looked)) found.rest created
       refl found.on in
-      let h = same_along plan session n.fd found.looked.entry entry handle options
-      (are_same file.stat.ids found.looked.ids) way.0 way.2 in
+      let h = same_along plan session n.fd found.looked.entry entry handle options file.stat.ids found.looked.ids way.0
+      way.2 in
       let a = opening n.dir asked.name (making_flags asked.flags) n.how n.fd in
       let t = stating n.fd file.stat in
       let behind = found.own ++ found.rest in
@@ -488,7 +405,7 @@ module _ (plan : Plan) (seat : HostSeat) (session : BegunSession) (asked : FileA
         looked_up = found.by;
         way = inr (record {
           makes_none = o.makes_none;
-          inserts = inserted_in found.looked.entry.inode handle way.0 found.rest way.1 h.1;
+          inserts = inserted_by found.looked.entry.inode handle way.0 found.rest way.1 h.1;
         });
       } in
       subst (λ (z : Entry). CreatedBy plan asked.parent asked.name z handle steps) h.0 by
@@ -499,6 +416,7 @@ pub created_parts : (plan : Plan) (seat : HostSeat) (who : Context) (parent : �
     (steps : List Step) →
     Belongs (grammar_of plan seat who (request.Create parent name mode kill flags umask ext)) steps
     (finish.Answer (answer.Created entry handle options)) → CreatedBy plan parent name entry handle steps
+unfolding on go_on
 created_parts plan seat who parent name mode kill flags umask ext entry handle options steps b =
     found (record { holds = []; marks = []; belongs = b })
   where
@@ -520,7 +438,7 @@ created_parts plan seat who parent name mode kill flags umask ext entry handle o
         ∷ resolving parent row form ids its_mode ∷ rest →
         Leads seat (file_of form (in_dir session)) rest last → CreatedBy plan parent name entry handle steps
     form_found session row its_mode (File dir) ids rest e l =
-        elim (asker_found plan seat session file last refl (asker_of plan session who ext.sup_gid) dir rest l) [
+        elim (file_found plan seat session file last refl dir rest l) [
           | inl n ↦ new_created plan seat session file entry handle options row its_mode (File dir) ids steps rest e n
           | inr o ↦ old_created plan seat session file entry handle options row its_mode (File dir) ids steps rest e o
         ]
@@ -530,14 +448,14 @@ created_parts plan seat who parent name mode kill flags umask ext entry handle o
 
     found : Leads seat (begin begins) steps last → CreatedBy plan parent name entry handle steps
     found l =
-        let g = goes_on seat (Changes change.Begin) (on_began begins) steps last refl
+        let g = goes_on seat (Changes change.Begin) (on began_in begins) steps last refl
         (none_told change.Begin (λ t. refl)) refl l in
         let k = began seat begins g.told g.rest last refl g.on in
         let this = session_of k.0 k.1 in
         let asks = change.Resolve parent in
-        let r = goes_on seat (Changes asks) (on_resolved (in_parent this)) g.rest last refl
+        let r = goes_on seat (Changes asks) (on resolved_in (in_parent this)) g.rest last refl
         (none_told asks (λ t. refl)) refl
-        (good_name seat (is_bad_name name) (resolve parent (in_parent this)) g.rest last refl k.3) in
+        (good_named seat name (resolve parent (in_parent this)) g.rest last refl k.3) in
         let d = resolved seat (in_parent this) r.told r.rest last refl r.on in
         form_found this d.0 d.3 d.1 d.2 r.rest (then_step g.are k.2 (then_step r.are d.4 refl)) d.5
 

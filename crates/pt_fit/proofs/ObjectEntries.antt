@@ -1,6 +1,7 @@
 -- The making of an object under a name that is answered with an entry came to it by a lookup of that name.
 use Rattle.std.proofs.Common.{◌≡◌, ◌++◌, ◌∷◌, ◌∙◌, [], if◌then◌else◌, ℕ, Bool, true, false, List, Option, Some, None}
-use Rattle.std.proofs.Common.{ap, append_assoc, refl, subst, sym}
+use Rattle.std.proofs.Common.{Result, ap, append_assoc, refl, subst, sym}
+use Rattle.std.specs.List.{list_any}
 use Rattle.pt_host.specs.Call.{Call}
 use Rattle.pt_host.specs.Errno.{eopnotsupp, eperm}
 use Rattle.pt_host.specs.declared.ids.Fd.{Fd}
@@ -10,7 +11,7 @@ use Rattle.pt_host.specs.declared.reply.HostReply.TheVariants as host
 use Rattle.pt_host.specs.declared.reply.HostValue.TheVariants as value
 use Rattle.pt_host.specs.declared.seat.HostSeat.{HostSeat}
 use Rattle.pt_creds.specs.Identity.{Credentials}
-use Rattle.pt_creds.specs.Steps.{calls_of, cred_steps}
+use Rattle.pt_creds.specs.Steps.{cred_steps}
 use Rattle.pt_session.specs.declared.event.KeptEvent.TheVariants as change
 use Rattle.pt_session.specs.declared.form.Negotiated.{Negotiated}
 use Rattle.pt_session.specs.declared.form.RowForm.{RowForm}
@@ -23,30 +24,31 @@ use Rattle.pt_iface.specs.declared.request.SecContext.{SecContext}
 use Rattle.pt_frame.specs.Deed.{Calls, Changes, Step}
 use Rattle.pt_frame.specs.Grammar.{Belongs}
 use Rattle.pt_frame.specs.Replies.{passes_with}
-use Rattle.pt_frame.specs.Tree.{Asks, Bares, Brackets, Gives, RequestTree, Shuts, grammar_of_tree}
+use Rattle.pt_frame.specs.Tree.{Asks, Bares, Gives, RequestTree, Shuts, grammar_of_tree, on, go_on}
 use Rattle.pt_frame.specs.declared.act.ActReply.{ActReply}
 use Rattle.pt_frame.specs.declared.act.ActReply.TheVariants.{Event, Host, NoCopy}
 use Rattle.pt_frame.specs.declared.finish.Finish.TheVariants as finish
 use Rattle.pt_req.specs.Asker.{as_asker, asker_of}
 use Rattle.pt_req.specs.Attributes.{is_blocked}
 use Rattle.pt_req.specs.Creating.{undone}
-use Rattle.pt_req.specs.Entries.{is_bad_name}
 use Rattle.pt_req.specs.Parts.{by_path, file_of, look_up, named}
-use Rattle.pt_req.specs.Steps.{Resolved, begin, on_began, on_ok_or, on_resolved, on_set, resolve, session_of}
-use Rattle.pt_req.specs.Steps.{on_tried, set_xattr}
+use Rattle.pt_req.specs.Steps.{begin, began_in, ok_in, or_refused, refused_in, resolve, resolved_in, session_of}
+use Rattle.pt_req.specs.Steps.{set_xattr, tried_in}
+use Rattle.pt_req.specs.declared.replies.Resolved.{Resolved}
 use Rattle.pt_req.specs.declared.begun.BegunSession.{BegunSession}
 use Rattle.pt_req.specs.declared.parts.looked.Looked.{Looked}
 use Rattle.pt_req.specs.declared.plan.Plan.{Plan}
-use Rattle.pt_attr.specs.Making.{is_bad_target, labelled_at, make, make_named, make_object, making_call, on_fd_or}
-use Rattle.pt_attr.specs.Making.{open_at_or, targeted, unmaking_call}
-use Rattle.pt_attr.specs.declared.requests.making.ObjectAsked.{ObjectAsked}
+use Rattle.pt_attr.specs.Making.{ObjectAsked, is_nul, kept_at, label_at, labelled_at, make_object, set_opened}
+use Rattle.pt_attr.specs.Making.{targeted}
+use Rattle.pt_attr.specs.Steps.{make, opened_in, try_open_at}
 use Rattle.pt_law.specs.Naming.{made, resolving}
 use Rattle.pt_fit.specs.Opened.{IsLookedUp}
+use Rattle.pt_fit.proofs.ObjectKinds.{Kind, Directory, Link, Node, make_kind, make_named, making_call, targeted_as}
+use Rattle.pt_fit.proofs.ObjectKinds.{unmaking_call}
+use Rattle.pt_fit.proofs.Coming.{bare_comes, set_on, taken_comes, tried_on}
 use Rattle.pt_fit.proofs.Leading.{HasEntry, Leads, given_none, goes_on, in_bracket, none_told, refused_none, replied}
 use Rattle.pt_fit.proofs.Leading.{shut_none, shuts_on}
-use Rattle.pt_fit.proofs.Looking.{began, good_name, looks, resolved, then_step}
-use Rattle.pt_fit.proofs.Making.{bare_comes, set_on, taken_comes, tried_on}
-use Rattle.pt_fit.proofs.Still.{still_set}
+use Rattle.pt_fit.proofs.Looking.{began, good_name, good_named, looks, resolved, then_step}
 
 -- By some steps the job comes to this tree.
 record Reaches (seat : HostSeat) (last : Answer) (tree : RequestTree) (steps : List Step) : Type 0 where
@@ -86,7 +88,7 @@ module _ (seat : HostSeat) (last : Answer) (p : HasEntry last) where
   undone_none : (undoing : Call) (given : Answer) → passes_with given ≡ false → (steps : List Step) →
       Leads seat (undone undoing given) steps last → ⊥
   undone_none undoing given none steps l =
-      let r = replied seat undoing (on_tried (Gives given)) steps last p l in
+      let r = replied seat undoing (on tried_in (λ done. Gives given)) steps last p l in
       let on : Leads seat (Gives given) r.rest last = tried_on seat last p (Gives given) r.told r.rest r.on in
       let some : passes_with given ≡ true = ap passes_with (sym (given_none seat given last r.rest p on)) ∙ p in
       absurd (cc)
@@ -97,67 +99,75 @@ module _ (seat : HostSeat) (last : Answer) (p : HasEntry last) where
       let s = shuts_on seat false (undone undoing given) steps last l in undone_none undoing given none s.1 s.3
 
   module _ (undoing : Call) (next : RequestTree) where
-    abbrev shut : Answer → RequestTree
-    shut given = Shuts false (undone undoing given)
+    abbrev shut : Option Answer → RequestTree
+    shut refused = Shuts false (or_refused (undone undoing) next refused)
+
+    set_told : (told : ActReply) (rest : List Step) → Leads seat (on refused_in shut told) rest last →
+        Reaches seat last next rest
+    unfolding on go_on
+    set_told (Host (host.Ok got)) rest m = shut_reaches next rest m
+    set_told (Host (host.Refused errno)) rest m =
+        absurd (shut_undone_none undoing (answer.Refused errno) refl rest m)
+    set_told (Host (host.Fault errno)) rest m =
+        absurd (shut_undone_none undoing (answer.Refused errno) refl rest m)
+    set_told (Host host.NoMemory) rest m = absurd (shut_undone_none undoing answer.NoMemory refl rest m)
+    set_told NoCopy rest m = absurd (shut_undone_none undoing answer.NoMemory refl rest m)
+    set_told (Event got) rest m = absurd (refused_none seat (Event got) rest last p m)
 
     set_reaches : (fd : Fd) (name bytes : List ℕ) (steps : List Step) →
-        Leads seat (set_xattr fd true name bytes 0 shut (Shuts false next)) steps last →
-        Reaches seat last next steps
+        Leads seat (set_xattr fd true name bytes 0 shut) steps last → Reaches seat last next steps
     set_reaches fd name bytes steps l =
-        calls_reach next (call.SetXattr fd true name bytes 0) (on_ok_or shut (Shuts false next)) steps told_so l
-      where
-        told_so : (told : ActReply) (rest : List Step) →
-            Leads seat (on_ok_or shut (Shuts false next) told) rest last → Reaches seat last next rest
-        told_so (Host (host.Ok got)) rest m = shut_reaches next rest m
-        told_so (Host (host.Refused errno)) rest m =
-            absurd (shut_undone_none undoing (answer.Refused errno) refl rest m)
-        told_so (Host (host.Fault errno)) rest m =
-            absurd (shut_undone_none undoing (answer.Refused errno) refl rest m)
-        told_so (Host host.NoMemory) rest m = absurd (shut_undone_none undoing answer.NoMemory refl rest m)
-        told_so NoCopy rest m = absurd (shut_undone_none undoing answer.NoMemory refl rest m)
-        told_so (Event got) rest m = absurd (refused_none seat (Event got) rest last p m)
+        calls_reach next (call.SetXattr fd true name bytes 0) (on refused_in shut) steps set_told l
+
+    abbrev sets : List ℕ → List ℕ → Result Fd Answer → RequestTree
+    sets attribute bytes opened = set_opened attribute bytes opened shut
+
+    opened_told : (attribute bytes : List ℕ) (told : ActReply) (rest : List Step) →
+        Leads seat (on opened_in (sets attribute bytes) told) rest last → Reaches seat last next rest
+    unfolding on go_on
+    opened_told attribute bytes (Host (host.Ok (value.Fd fd))) rest m = set_reaches fd attribute bytes rest m
+    opened_told attribute bytes (Host (host.Refused errno)) rest m =
+        absurd (shut_undone_none undoing (answer.Refused errno) refl rest m)
+    opened_told attribute bytes (Host (host.Fault errno)) rest m =
+        absurd (shut_undone_none undoing (answer.Refused errno) refl rest m)
+    opened_told attribute bytes (Host host.NoMemory) rest m =
+        absurd (shut_undone_none undoing answer.NoMemory refl rest m)
+    opened_told attribute bytes NoCopy rest m = absurd (shut_undone_none undoing answer.NoMemory refl rest m)
+    opened_told attribute bytes told rest m = absurd (refused_none seat told rest last p m)
 
     opened_reaches : (dir : Fd) (name attribute bytes : List ℕ) (steps : List Step) →
-        Leads seat (open_at_or dir name by_path shut (λ fd.
-        set_xattr fd true attribute bytes 0 shut (Shuts false next))) steps last → Reaches seat last next steps
+        Leads seat (try_open_at dir name by_path (sets attribute bytes)) steps last → Reaches seat last next steps
     opened_reaches dir name attribute bytes steps l =
-        calls_reach next (call.OpenAt dir name by_path 0) (on_fd_or shut sets) steps told_so l
-      where
-        sets : Fd → RequestTree
-        sets fd = set_xattr fd true attribute bytes 0 shut (Shuts false next)
+        calls_reach next (call.OpenAt dir name by_path 0) (on opened_in (sets attribute bytes)) steps
+        (opened_told attribute bytes) l
 
-        told_so : (told : ActReply) (rest : List Step) → Leads seat (on_fd_or shut sets told) rest last →
-            Reaches seat last next rest
-        told_so (Host (host.Ok (value.Fd fd))) rest m = set_reaches fd attribute bytes rest m
-        told_so (Host (host.Refused errno)) rest m =
-            absurd (shut_undone_none undoing (answer.Refused errno) refl rest m)
-        told_so (Host (host.Fault errno)) rest m =
-            absurd (shut_undone_none undoing (answer.Refused errno) refl rest m)
-        told_so (Host host.NoMemory) rest m = absurd (shut_undone_none undoing answer.NoMemory refl rest m)
-        told_so NoCopy rest m = absurd (shut_undone_none undoing answer.NoMemory refl rest m)
-        told_so told rest m = absurd (refused_none seat told rest last p m)
+    label_reaches : (dir : Fd) (name : List ℕ) (label : SecContext) (bad : Bool) (steps : List Step) →
+        Leads seat (if bad then undone undoing (answer.Refused eopnotsupp)
+        else kept_at dir name undoing label.name label.value next) steps last → Reaches seat last next steps
+    label_reaches dir name label true steps m = absurd (undone_none undoing (answer.Refused eopnotsupp) refl steps m)
+    label_reaches dir name label false steps m =
+        opened_reaches dir name label.name label.value steps
+        (in_bracket seat (try_open_at dir name by_path (sets label.name label.value)) steps last m)
+
+    label_set_reaches : (session : BegunSession) (dir : Fd) (name : List ℕ) (label : SecContext)
+        (steps : List Step) → Leads seat (label_at session dir name undoing label next) steps last →
+        Reaches seat last next steps
+    unfolding label_at
+    label_set_reaches session dir name label steps l =
+        label_reaches dir name label (is_blocked session.agreed label.name) steps l
 
     labelled_reaches : (session : BegunSession) (dir : Fd) (name : List ℕ) (label : Option SecContext)
         (steps : List Step) → Leads seat (labelled_at session dir name undoing label next) steps last →
         Reaches seat last next steps
     labelled_reaches session dir name None steps l = reaches_now next steps l
-    labelled_reaches session dir name (Some label) steps l = go (is_blocked session.agreed label.name) l
-      where
-        sets : RequestTree
-        sets = open_at_or dir name by_path shut (λ fd.
-            set_xattr fd true label.name label.value 0 shut (Shuts false next))
-
-        go : (bad : Bool) → Leads seat (if bad then undone undoing (answer.Refused eopnotsupp) else Brackets sets)
-            steps last → Reaches seat last next steps
-        go true m = absurd (undone_none undoing (answer.Refused eopnotsupp) refl steps m)
-        go false m = opened_reaches dir name label.name label.value steps (in_bracket seat sets steps last m)
+    labelled_reaches session dir name (Some label) steps l = label_set_reaches session dir name label steps l
 
   -- the object was made, and the scopes ended
   made_reaches : (making : Call) (next : RequestTree) (steps : List Step) →
       Leads seat (make making next) steps last → Reaches seat last next steps
   made_reaches making next steps l =
-      calls_reach next making (λ told. Bares (on_set next told)) steps (λ told rest m.
-      let b = bare_comes seat last p (on_set next told) rest m in
+      calls_reach next making (λ told. Bares (on ok_in (λ done. next) told)) steps (λ told rest m.
+      let b = bare_comes seat last p (on ok_in (λ done. next) told) rest m in
       reaches_behind next rest b.front b.rest b.are
       (reaches_now next b.rest (set_on seat last p next told b.rest b.on))) l
 
@@ -168,17 +178,42 @@ module _ (seat : HostSeat) (last : Answer) (p : HasEntry last) where
       let no : passes_with (answer.Refused eperm) ≡ true =
       ap passes_with (sym (given_none seat (answer.Refused eperm) last steps p l)) ∙ p in absurd (cc)
   asker_reaches (Some creds) making next steps l =
-      let t = taken_comes seat last p (calls_of (cred_steps creds seat)) (make making next) steps
-      (still_set (cred_steps creds seat)) l in
+      let t = taken_comes seat last p (cred_steps creds seat) (make making next) steps l in
       reaches_behind next steps t.front t.rest t.are (made_reaches making next t.rest t.on)
 
+-- in its directory it came to a lookup of its name
+kind_reaches : (plan : Plan) (seat : HostSeat) (session : BegunSession) (object : ObjectAsked) (its : Kind) (dir : Fd)
+    (last : Answer) (p : HasEntry last) (steps : List Step) →
+    Leads seat (make_kind plan seat session object its dir) steps last →
+    Reaches seat last (look_up plan session object.parent object.name (λ looked. Gives (answer.Entry looked.entry)))
+    steps
+unfolding make_object
+kind_reaches plan seat session object its dir last p steps l =
+    let looking : RequestTree = look_up plan session object.parent object.name (λ looked.
+    Gives (answer.Entry looked.entry)) in
+    let undoing = unmaking_call its dir object.name in
+    let m = asker_reaches seat last p (asker_of plan session object.who object.ext.sup_gid)
+    (making_call its dir object.name) (labelled_at session dir object.name undoing object.ext.secctx looking) steps l
+    in
+    let k = labelled_reaches seat last p undoing looking session dir object.name object.ext.secctx m.rest m.on in
+    reaches_behind seat last p looking steps m.front m.rest m.are k
+
+target_good : (seat : HostSeat) (its : Kind) (next : RequestTree) (steps : List Step) (last : Answer) →
+    HasEntry last → Leads seat (targeted_as its next) steps last → Leads seat next steps last
+unfolding targeted
+target_good seat (Directory mode) next steps last p a = a
+target_good seat (Node mode rdev) next steps last p a = a
+target_good seat (Link target) next steps last p a = good_name seat (list_any is_nul target) next steps last p a
+
 -- it began, and came by some steps to those of a lookup
-pub made_by : (plan : Plan) (seat : HostSeat) (object : ObjectAsked) (entry : Entry) (steps : List Step) →
-    Belongs (grammar_of_tree seat (make_named plan seat object)) steps (finish.Answer (answer.Entry entry)) →
+pub made_by : (plan : Plan) (seat : HostSeat) (object : ObjectAsked) (its : Kind) (entry : Entry) (steps : List Step) →
+    Belongs (grammar_of_tree seat (begin (make_named plan seat object its))) steps
+    (finish.Answer (answer.Entry entry)) →
     (era : ℕ) × (agreed : Negotiated) × (front : List Step) × (own : List Step) × (back : List Step)
     × (steps ≡ made (Changes change.Begin) (Event (event.Began era agreed)) ∷ (front ++ (own ++ back)))
     × IsLookedUp plan era agreed object.parent object.name entry own
-made_by plan seat object entry steps b = found (record { holds = []; marks = []; belongs = b })
+unfolding on go_on
+made_by plan seat object its entry steps b = found (record { holds = []; marks = []; belongs = b })
   where
     last : Answer
     last = answer.Entry entry
@@ -190,7 +225,7 @@ made_by plan seat object entry steps b = found (record { holds = []; marks = [];
     looking session = look_up plan session object.parent object.name answers
 
     in_dir : BegunSession → Fd → RequestTree
-    in_dir session dir = make_object plan seat session object dir
+    in_dir session dir = make_kind plan seat session object its dir
 
     in_parent : BegunSession → Resolved → RequestTree
     in_parent session directory = file_of directory.form (in_dir session)
@@ -226,31 +261,25 @@ made_by plan seat object entry steps b = found (record { holds = []; marks = [];
         ∷ resolving object.parent row form ids mode ∷ rest →
         Leads seat (file_of form (in_dir session)) rest last → Found
     form_found session row mode (File dir) ids rest e l =
-        let undoing = unmaking_call object.made dir object.name in
-        let labelling = labelled_at session dir object.name undoing object.secctx (looking session) in
-        let m = asker_reaches seat last refl (asker_of plan session object.who object.sup_gid)
-        (making_call object.made dir object.name) labelling rest l in
-        let k = labelled_reaches seat last refl undoing (looking session) session dir object.name object.secctx m.rest
-        m.on in
-        let r = reaches_behind seat last refl (looking session) rest m.front m.rest m.are k in
+        let r = kind_reaches plan seat session object its dir last refl rest l in
         let a = resolving object.parent row (File dir) ids mode in
         let begun = made (Changes change.Begin) (Event (event.Began session.era session.agreed)) in
         looked session (a ∷ r.front) r.rest (e ∙ ap (λ (z : List Step). begun ∷ a ∷ z) r.are) r.on
 
     begins : BegunSession → RequestTree
-    begins session = named object.name (targeted object.made (resolve object.parent (in_parent session)))
+    begins session = named object.name (targeted_as its (resolve object.parent (in_parent session)))
 
     found : Leads seat (begin begins) steps last → Found
     found l =
-        let g = goes_on seat (Changes change.Begin) (on_began begins) steps last refl
+        let g = goes_on seat (Changes change.Begin) (on began_in begins) steps last refl
         (none_told change.Begin (λ t. refl)) refl l in
         let k = began seat begins g.told g.rest last refl g.on in
         let this = session_of k.0 k.1 in
         let asks = change.Resolve object.parent in
         let tree = resolve object.parent (in_parent this) in
-        let r = goes_on seat (Changes asks) (on_resolved (in_parent this)) g.rest last refl
+        let r = goes_on seat (Changes asks) (on resolved_in (in_parent this)) g.rest last refl
         (none_told asks (λ t. refl)) refl
-        (good_name seat (is_bad_target object.made) tree g.rest last refl
-        (good_name seat (is_bad_name object.name) (targeted object.made tree) g.rest last refl k.3)) in
+        (target_good seat its tree g.rest last refl
+        (good_named seat object.name (targeted_as its tree) g.rest last refl k.3)) in
         let d = resolved seat (in_parent this) r.told r.rest last refl r.on in
         form_found this d.0 d.3 d.1 d.2 r.rest (then_step g.are k.2 (then_step r.are d.4 refl)) d.5

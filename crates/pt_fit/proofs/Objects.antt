@@ -1,6 +1,7 @@
 -- The making of an object under a name is fit: as whoever asks it is made, gets its context, and is looked up.
 use Rattle.std.proofs.Common.{◌≡◌, ◌++◌, ◌∷◌, ◌∙◌, [], if◌then◌else◌, inl, inr, ℕ, Bool, true, false, List, None}
 use Rattle.std.proofs.Common.{Option, Some, length, refl, subst, sym}
+use Rattle.std.specs.List.{list_any}
 use Rattle.pt_host.specs.Call.{Call}
 use Rattle.pt_host.specs.Errno.{einval, eopnotsupp, eperm}
 use Rattle.pt_host.specs.Words.{Takes.{here}}
@@ -18,7 +19,7 @@ use Rattle.pt_iface.specs.declared.request.Context.{Context}
 use Rattle.pt_iface.specs.declared.request.Request.{Request}
 use Rattle.pt_iface.specs.declared.request.SecContext.{SecContext}
 use Rattle.pt_frame.specs.Deed.{Calls, Step}
-use Rattle.pt_frame.specs.Tree.{Bares, Brackets, Gives, RequestTree, Shuts}
+use Rattle.pt_frame.specs.Tree.{Bares, Gives, RequestTree, Shuts, on, go_on}
 use Rattle.pt_frame.specs.declared.act.ActReply.{ActReply}
 use Rattle.pt_frame.specs.declared.act.ActReply.TheVariants.{Event, Host, NoCopy}
 use Rattle.pt_frame.specs.declared.hold.Hold.{Hold}
@@ -28,30 +29,29 @@ use Rattle.pt_req.specs.Attributes.{is_blocked}
 use Rattle.pt_req.specs.Creating.{undone}
 use Rattle.pt_req.specs.Entries.{is_bad_name}
 use Rattle.pt_req.specs.Parts.{by_path}
-use Rattle.pt_req.specs.Steps.{on_set, set_xattr}
+use Rattle.pt_req.specs.Steps.{begin, ok_in, or_refused, set_xattr}
 use Rattle.pt_req.specs.declared.begun.BegunSession.{BegunSession}
 use Rattle.pt_req.specs.declared.plan.Plan.{Plan}
-use Rattle.pt_attr.specs.Making.{is_bad_target, labelled_at, make, make_named, making_call, open_at_or}
-use Rattle.pt_attr.specs.Making.{unmaking_call}
-use Rattle.pt_attr.specs.declared.requests.making.Made.{Made}
-use Rattle.pt_attr.specs.declared.requests.making.Made.TheVariants as made
-use Rattle.pt_attr.specs.declared.requests.making.ObjectAsked.{ObjectAsked}
+use Rattle.pt_attr.specs.Making.{ObjectAsked, kept_at, label_at, labelled_at, make_object, set_opened, targeted}
+use Rattle.pt_attr.specs.Making.{is_nul}
+use Rattle.pt_attr.specs.Steps.{make, try_open_at}
 use Rattle.pt_law.specs.Discipline.{KnowsAll, Notes, blank}
 use Rattle.pt_law.specs.Keeps.{Lasts, unscoped}
 use Rattle.pt_law.specs.Naming.{made as step_made}
 use Rattle.pt_law.specs.Told.{MayBeTold}
 use Rattle.pt_fit.specs.Cause.{Asking, BlocksLabel, IsBlockedLabel, OwnCause, SomeShows, asking, caused}
 use Rattle.pt_fit.specs.Fit.{Fit, MayAnswer}
+use Rattle.pt_fit.proofs.ObjectKinds.{Kind, Directory, Node, Link, is_bad_target, make_kind, make_named, making_call}
+use Rattle.pt_fit.proofs.ObjectKinds.{targeted_as, unmaking_call}
 use Rattle.pt_fit.proofs.Creating.{covers_none, fit_as_asker}
 use Rattle.pt_fit.proofs.Holds.{down_over, nothing_bare}
 use Rattle.pt_fit.proofs.Joined.{after_any_step, fit_gives, fit_look_up}
-use Rattle.pt_fit.proofs.Parts.{FitOn, Seen, Told, blocked_by, fit_begin, fit_checked, fit_file_of}
+use Rattle.pt_fit.proofs.Parts.{FitOn, Seen, Told, Agreed, blocked_by, fit_begin, fit_checked, fit_file_of, fit_name}
 use Rattle.pt_fit.proofs.Parts.{fit_resolve, still}
 use Rattle.pt_fit.proofs.Scopes.{Covers}
 use Rattle.pt_fit.proofs.Refused.{path_heeded, refused_by}
 
 -- The object is made, and the scopes end.
-
 module _ {asked : Asking} {seen : List Seen} {marks : List ℕ} {notes : Notes} (holds bare : List Hold)
     (row : ℕ) (dir : Fd) (name : List ℕ) (next : RequestTree) (c : Covers holds (hold.Pin row (Some dir) ∷ bare))
     (f : FitOn asked seen next (hold.Pin row (Some dir) ∷ bare) marks notes) where
@@ -62,26 +62,27 @@ module _ {asked : Asking} {seen : List Seen} {marks : List ℕ} {notes : Notes} 
   -- what follows the call
   fit_told : (making : Call) (path : List Step) (told : ActReply) → Told seen path →
       ((errno : Errno) → caused asked making errno ≡ Some errno) → MayBeTold (Calls making) told →
-      Fit asked (Bares (on_set next told)) holds marks notes (step_made (Calls making) told ∷ path)
+      Fit asked (Bares (on ok_in (λ done. next) told)) holds marks notes (step_made (Calls making) told ∷ path)
+  unfolding on go_on
   fit_told making path (Host (host.Ok got)) s heeded m =
       subst (λ (z : List Hold). Fit asked next z marks notes (step_made (Calls making) (Host (host.Ok got)) ∷ path))
       (sym c.uncovers) (f.on _ (still s))
   fit_told making path told s heeded m = refused_by asked (Calls making) told holds path heeded m (λ no. no)
 
-  fit_make : (what : Made) → FitOn asked seen (make (making_call what dir name) next) holds marks notes
-  fit_make (made.Directory mode) = record {
+  fit_make : (what : Kind) → FitOn asked seen (make (making_call what dir name) next) holds marks notes
+  fit_make (Directory mode) = record {
     on = λ path s. (
       (knows_dir, tt),
       λ told m. fit_told (call.MakeDir dir name mode) path told s (λ errno. refl) m,
     );
   }
-  fit_make (made.Node mode rdev) = record {
+  fit_make (Node mode rdev) = record {
     on = λ path s. (
       (knows_dir, tt),
       λ told m. fit_told (call.MakeNode dir name mode rdev) path told s (λ errno. refl) m,
     );
   }
-  fit_make (made.Link target) = record {
+  fit_make (Link target) = record {
     on = λ path s. (
       (knows_dir, tt),
       λ told m. fit_told (call.SymLink dir name target) path told s (λ errno. refl) m,
@@ -92,41 +93,42 @@ module _ {asked : Asking} {seen : List Seen} {marks : List ℕ} {notes : Notes} 
 
 module _ (asked : Asking) (holds : List Hold) (marks : List ℕ) (dir : Fd) (name : List ℕ)
     (k : KnowsAll (unscoped holds) (dir ∷ [])) where
-  fit_undone : (what : Made) (last : Answer) (notes : Notes) (path : List Step) →
+  fit_undone : (what : Kind) (last : Answer) (notes : Notes) (path : List Step) →
       ((step : Step) → Fit asked (Gives last) holds marks notes (step ∷ path)) →
       Fit asked (undone (unmaking_call what dir name) last) holds marks notes path
-  fit_undone (made.Directory mode) last notes path f = (
+  unfolding on go_on
+  fit_undone (Directory mode) last notes path f = (
     (k, tt),
     elim [
-      | Host told ↦ λ m. f (step_made (Calls (unmaking_call (made.Directory mode) dir name)) (Host told))
+      | Host told ↦ λ m. f (step_made (Calls (unmaking_call (Directory mode) dir name)) (Host told))
       | Event told ↦ λ m. absurd m
       | NoCopy ↦ λ m. tt
     ],
   )
-  fit_undone (made.Node mode rdev) last notes path f = (
+  fit_undone (Node mode rdev) last notes path f = (
     (k, tt),
     elim [
-      | Host told ↦ λ m. f (step_made (Calls (unmaking_call (made.Node mode rdev) dir name)) (Host told))
+      | Host told ↦ λ m. f (step_made (Calls (unmaking_call (Node mode rdev) dir name)) (Host told))
       | Event told ↦ λ m. absurd m
       | NoCopy ↦ λ m. tt
     ],
   )
-  fit_undone (made.Link target) last notes path f = (
+  fit_undone (Link target) last notes path f = (
     (k, tt),
     elim [
-      | Host told ↦ λ m. f (step_made (Calls (unmaking_call (made.Link target) dir name)) (Host told))
+      | Host told ↦ λ m. f (step_made (Calls (unmaking_call (Link target) dir name)) (Host told))
       | Event told ↦ λ m. absurd m
       | NoCopy ↦ λ m. tt
     ],
   )
 
-  fit_refused : (what : Made) (errno : Errno) (notes : Notes) (path : List Step) →
+  fit_refused : (what : Kind) (errno : Errno) (notes : Notes) (path : List Step) →
       SomeShows asked path errno →
       Fit asked (undone (unmaking_call what dir name) (answer.Refused errno)) holds marks notes path
   fit_refused what errno notes path s =
       fit_undone what (answer.Refused errno) notes path (λ step. (tt, inr (inl (inr s)), tt))
 
-  fit_out : (what : Made) (notes : Notes) (path : List Step) →
+  fit_out : (what : Kind) (notes : Notes) (path : List Step) →
       Fit asked (undone (unmaking_call what dir name) answer.NoMemory) holds marks notes path
   fit_out what notes path = fit_undone what answer.NoMemory notes path (λ step. (tt, tt, tt))
 
@@ -145,14 +147,18 @@ pinned row dir = hold.Pin row (Some dir) ∷ []
 knows : (row : ℕ) (dir : Fd) → KnowsAll (unscoped (pinned row dir)) (dir ∷ [])
 knows row dir = ((hold.Pin row (Some dir), _, here, refl), tt)
 
-abbrev shut_by : Made → Fd → List ℕ → Answer → RequestTree
+abbrev shut_by : Kind → Fd → List ℕ → Answer → RequestTree
 shut_by what dir name last = Shuts false (undone (unmaking_call what dir name) last)
+
+-- what follows the attempt, by what it is to be answered
+abbrev shutting : Kind → Fd → List ℕ → RequestTree → Option Answer → RequestTree
+shutting what dir name next refused = Shuts false (or_refused (undone (unmaking_call what dir name)) next refused)
 
 -- in the bracket in which that is done
 abbrev inner : ℕ → Fd → List ℕ → List ℕ
 inner row dir marks = length (pinned row dir) ∷ marks
 
-module _ (asked : Asking) (marks : List ℕ) (row : ℕ) (dir : Fd) (name : List ℕ) (what : Made) where
+module _ (asked : Asking) (marks : List ℕ) (row : ℕ) (dir : Fd) (name : List ℕ) (what : Kind) where
   refused_so : (front : List Hold) (errno : Errno) (these : Notes) (path : List Step) →
       SomeShows asked path errno →
       Fit asked (shut_by what dir name (answer.Refused errno)) (front ++ pinned row dir) (inner row dir marks) these
@@ -168,13 +174,14 @@ module _ (asked : Asking) (marks : List ℕ) (row : ℕ) (dir : Fd) (name : List
       (λ later l. fit_out asked (pinned row dir) marks dir name (knows row dir) what later path)
 
 module _ (asked : Asking) (seen : List Seen) (marks : List ℕ) (notes : Notes) (session : BegunSession)
-    (row number : ℕ) (dir : Fd) (name : List ℕ) (what : Made) (next : RequestTree)
+    (row number : ℕ) (dir : Fd) (name : List ℕ) (what : Kind) (next : RequestTree)
     (f : (later : Notes) → later.era ≡ notes.era → later.brought ≡ None →
     FitOn asked seen next (pinned row dir) marks later) where
   -- by its descriptor
   fit_set : (fd : Fd) (attribute bytes : List ℕ) (these : Notes) → these.era ≡ notes.era →
-      FitOn asked seen (set_xattr fd true attribute bytes 0 (shut_by what dir name) (Shuts false next))
+      FitOn asked seen (set_xattr fd true attribute bytes 0 (shutting what dir name next))
       (hold.Fd fd ∷ pinned row dir) (inner row dir marks) these
+  unfolding on go_on
   fit_set fd attribute bytes these same = record {
     on = λ path s. (
       (((hold.Fd fd, _, here, refl), tt), tt),
@@ -201,9 +208,10 @@ module _ (asked : Asking) (seen : List Seen) (marks : List ℕ) (notes : Notes) 
 
   -- its name is opened
   fit_opened : (attribute bytes : List ℕ) → notes.resolved ≡ Some (record { number = number; row = row }) →
-      FitOn asked seen (open_at_or dir name by_path (shut_by what dir name) (λ fd.
-      set_xattr fd true attribute bytes 0 (shut_by what dir name) (Shuts false next))) (pinned row dir)
+      FitOn asked seen (try_open_at dir name by_path (λ told.
+      set_opened attribute bytes told (shutting what dir name next))) (pinned row dir)
       (inner row dir marks) notes
+  unfolding on go_on
   fit_opened attribute bytes r = record {
     on = λ path s. (
       (((hold.Pin row (Some dir), _, here, refl), tt), (record { number = number; row = row }, _, r, here)),
@@ -225,6 +233,24 @@ module _ (asked : Asking) (seen : List Seen) (marks : List ℕ) (notes : Notes) 
       opening : ActReply → Step
       opening told = step_made (Calls (call.OpenAt dir name by_path 0)) told
 
+  fit_label_at : (brought : SecContext) → notes.resolved ≡ Some (record { number = number; row = row }) →
+      (is_blocked session.agreed brought.name ≡ true → (path : List Step) → Told seen path →
+      SomeShows asked path eopnotsupp) →
+      FitOn asked seen (label_at session dir name (unmaking_call what dir name) brought next) (pinned row dir) marks
+      notes
+  unfolding label_at
+  fit_label_at brought r c = go (is_blocked session.agreed brought.name) refl
+    where
+      go : (bad : Bool) → is_blocked session.agreed brought.name ≡ bad →
+          FitOn asked seen (if bad then undone (unmaking_call what dir name) (answer.Refused eopnotsupp)
+          else kept_at dir name (unmaking_call what dir name) brought.name brought.value next)
+          (pinned row dir) marks notes
+      go true e = record {
+        on = λ path s. fit_refused asked (pinned row dir) marks dir name (knows row dir) what eopnotsupp notes path
+            (c e path s);
+      }
+      go false e = record { on = (fit_opened brought.name brought.value r).on }
+
   fit_labelled_at : (label : Option SecContext) → notes.resolved ≡ Some (record { number = number; row = row }) →
       notes.brought ≡ None →
       ((brought : SecContext) → label ≡ Some brought → is_blocked session.agreed brought.name ≡ true →
@@ -232,42 +258,53 @@ module _ (asked : Asking) (seen : List Seen) (marks : List ℕ) (notes : Notes) 
       FitOn asked seen (labelled_at session dir name (unmaking_call what dir name) label next) (pinned row dir) marks
       notes
   fit_labelled_at None r n c = f notes refl n
-  fit_labelled_at (Some brought) r n c = go (is_blocked session.agreed brought.name) refl
-    where
-      go : (bad : Bool) → is_blocked session.agreed brought.name ≡ bad →
-          FitOn asked seen (if bad then undone (unmaking_call what dir name) (answer.Refused eopnotsupp)
-          else Brackets (open_at_or dir name by_path (shut_by what dir name) (λ fd.
-          set_xattr fd true brought.name brought.value 0 (shut_by what dir name) (Shuts false next))))
-          (pinned row dir) marks notes
-      go true e = record {
-        on = λ path s. fit_refused asked (pinned row dir) marks dir name (knows row dir) what eopnotsupp notes path
-            (c brought refl e path s);
-      }
-      go false e = record { on = (fit_opened brought.name brought.value r).on }
+  fit_labelled_at (Some brought) r n c = fit_label_at brought r (c brought refl)
 
--- as whoever asks, in a directory, and the entry is answered
-pub fit_named : (plan : Plan) (seat : HostSeat) (who : Context) (what : Request) (object : ObjectAsked) →
-    (is_bad_name object.name ≡ true → OwnCause plan who what einval) →
-    (is_bad_target object.made ≡ true → OwnCause plan who what einval) →
-    ((session : BegunSession) → asker_of plan session object.who object.sup_gid ≡ None →
-    OwnCause plan who what eperm) →
-    ((agreed : Negotiated) → IsBlockedLabel agreed object.secctx → BlocksLabel agreed what) →
+-- as whoever asks, in a directory that was resolved
+fit_kind : {marks : List ℕ} {notes : Notes} (plan : Plan) (seat : HostSeat) (who : Context) (what : Request)
+    (session : BegunSession) (object : ObjectAsked) (its : Kind) (row : ℕ) (dir : Fd) →
+    notes.era ≡ Some session.era → notes.brought ≡ None →
+    notes.resolved ≡ Some (record { number = object.parent; row = row }) →
+    (asker_of plan session object.who object.ext.sup_gid ≡ None → OwnCause plan who what eperm) →
+    ((agreed : Negotiated) → IsBlockedLabel agreed object.ext.secctx → BlocksLabel agreed what) →
     ((entry : Entry) → MayAnswer (answer.Entry entry) what) →
-    FitOn (asking plan who what) [] (make_named plan seat object) [] [] blank
-fit_named plan seat who what object misnamed mistargeted forbids blocks answers =
-    fit_begin _ refl (λ session.
-    fit_checked (is_bad_name object.name) _ misnamed (
-    fit_checked (is_bad_target object.made) _ mistargeted (
-    fit_resolve object.parent _ nothing_bare (λ row. after_any_step (fit_file_of row.row row.form _ (λ dir.
+    FitOn (asking plan who what) (Agreed session.agreed ∷ []) (make_kind plan seat session object its dir)
+    (pinned row dir) marks notes
+unfolding make_object
+fit_kind plan seat who what session object its row dir era none resolved forbids blocks answers =
     fit_as_asker _
-    (λ holds c. fit_make holds [] row.row dir object.name _ c
-    (fit_labelled_at _ _ _ _ session row.row object.parent dir object.name object.made _
+    (λ holds c. fit_make holds [] row dir object.name _ c
+    (fit_labelled_at _ _ _ _ session row object.parent dir object.name its _
     (λ later same none.
-    fit_look_up plan session object.parent object.name _ (λ one. refl) same none (λ looked found last l.
+    fit_look_up plan session object.parent object.name _ (λ one. refl) (same ∙ era) none (λ looked found last l.
     fit_gives (answer.Entry looked.entry) (λ path. (refl, tt, answers looked.entry))))
-    object.secctx refl refl
+    object.ext.secctx resolved none
     (λ brought is bad path s. blocked_by (asking plan who what) path session.agreed
     (blocks session.agreed (subst (λ (label : Option SecContext). IsBlockedLabel session.agreed label) (sym is) bad))
     s.each.0))
-    object.made)
-    seat (asker_of plan session object.who object.sup_gid) _ (covers_none row.row dir) (forbids session)))))))
+    its)
+    seat (asker_of plan session object.who object.ext.sup_gid) _ (covers_none row dir) forbids
+
+fit_target : {asked : Asking} {seen : List Seen} {holds : List Hold} {marks : List ℕ} {notes : Notes} (its : Kind)
+    (next : RequestTree) → (is_bad_target its ≡ true → OwnCause asked.plan asked.who asked.request einval) →
+    FitOn asked seen next holds marks notes → FitOn asked seen (targeted_as its next) holds marks notes
+unfolding targeted
+fit_target (Directory mode) next c f = f
+fit_target (Node mode rdev) next c f = f
+fit_target (Link target) next c f = fit_checked (list_any is_nul target) next c f
+
+-- its name and its target are checked first
+pub fit_named : (plan : Plan) (seat : HostSeat) (who : Context) (what : Request) (object : ObjectAsked) (its : Kind) →
+    (is_bad_name object.name ≡ true → OwnCause plan who what einval) →
+    (is_bad_target its ≡ true → OwnCause plan who what einval) →
+    ((session : BegunSession) → asker_of plan session object.who object.ext.sup_gid ≡ None →
+    OwnCause plan who what eperm) →
+    ((agreed : Negotiated) → IsBlockedLabel agreed object.ext.secctx → BlocksLabel agreed what) →
+    ((entry : Entry) → MayAnswer (answer.Entry entry) what) →
+    FitOn (asking plan who what) [] (begin (make_named plan seat object its)) [] [] blank
+fit_named plan seat who what object its misnamed mistargeted forbids blocks answers =
+    fit_begin _ refl (λ session.
+    fit_name object.name _ misnamed (
+    fit_target its _ mistargeted (
+    fit_resolve object.parent _ nothing_bare (λ row. after_any_step (fit_file_of row.row row.form _ (λ dir.
+    fit_kind plan seat who what session object its row.row dir refl refl refl (forbids session) blocks answers))))))

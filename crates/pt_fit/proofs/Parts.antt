@@ -20,14 +20,16 @@ use Rattle.pt_session.specs.declared.reply.EventReply.TheVariants as event
 use Rattle.pt_iface.specs.declared.answer.Answer.TheVariants as answer
 use Rattle.pt_frame.specs.Deed.{Deed, Calls, Changes, Step}
 use Rattle.pt_frame.specs.Held.{row_fd, laid}
-use Rattle.pt_frame.specs.Tree.{RequestTree, Gives, Brackets, Shuts}
+use Rattle.pt_frame.specs.Tree.{RequestTree, Gives, Brackets, Shuts, on, go_on}
 use Rattle.pt_frame.specs.declared.act.ActReply.{ActReply}
 use Rattle.pt_frame.specs.declared.act.ActReply.TheVariants.{Event, Host}
 use Rattle.pt_frame.specs.declared.hold.Hold.{Hold}
 use Rattle.pt_frame.specs.declared.hold.Hold.TheVariants as hold
-use Rattle.pt_req.specs.Steps.{session_of, begin, clear, Resolved, resolve, open_root, open_at, reopen, stat}
+use Rattle.pt_req.specs.declared.replies.Resolved.{Resolved}
+use Rattle.pt_req.specs.Steps.{session_of, begin, clear, resolve, open_root, open_at, reopen, stat}
 use Rattle.pt_req.specs.Steps.{claim, take_fd, draw_node, draw_handle, insert, insert_root, insert_handle, pin_handle}
-use Rattle.pt_req.specs.Parts.{file_of}
+use Rattle.pt_req.specs.Entries.{is_bad_name, is_bad_offset}
+use Rattle.pt_req.specs.Parts.{file_of, named, placed}
 use Rattle.pt_req.specs.Steps.{forget_all, release_handle}
 use Rattle.pt_req.specs.declared.begun.BegunSession.{BegunSession}
 use Rattle.pt_law.specs.Discipline.{Notes, with_root, unnoted, found_by, given_for, with_given, KnowsAll, PinsLatest}
@@ -146,6 +148,7 @@ pub fit_begin : {asked : Asking} {seen : List Seen} {holds : List Hold} {marks :
     ((session : BegunSession) → FitOn asked (Agreed session.agreed ∷ seen) (next session) holds marks
     (record notes { era = Some session.era })) →
     FitOn asked seen (begin next) holds marks notes
+unfolding on go_on
 fit_begin {asked = asked} {holds = holds} next none f = record {
   on = λ path s. (
     (tt, none),
@@ -162,6 +165,7 @@ pub fit_clear : {asked : Asking} {seen : List Seen} {holds : List Hold} {marks :
     ((era : ℕ) (later : Notes) → Lasts (record notes { era = Some era }) later →
     FitOn asked seen (next era) holds marks later) →
     FitOn asked seen (clear next) holds marks notes
+unfolding on go_on
 fit_clear {asked = asked} {holds = holds} {notes = notes} next none n f = record {
   on = λ path s. (
     (tt, none),
@@ -200,6 +204,7 @@ pub fit_resolve_over : {asked : Asking} {seen : List Seen} {holds : List Hold} {
     ((row : Resolved) → GoesAfter (resolution number row) asked seen (next row)
     (over dropped (hold.Pin row.row (row_fd row.form) ∷ holds)) marks (noting number row.row notes)) →
     FitOn asked seen (resolve number next) (over dropped holds) marks notes
+unfolding on go_on
 fit_resolve_over {asked = asked} {holds = holds} dropped number next b f = record {
   on = λ path s. (
     (tt, tt),
@@ -227,6 +232,7 @@ pub fit_open_root : {asked : Asking} {seen : List Seen} {holds : List Hold} {mar
     (flags : OpenFlags) (next : Fd → RequestTree) → IsBare holds →
     ((fd : Fd) → FitOn asked seen (next fd) (hold.Fd fd ∷ holds) marks (with_root fd (newly fd notes))) →
     FitOn asked seen (open_root dir flags next) holds marks notes
+unfolding on go_on
 fit_open_root {asked = asked} {holds = holds} dir flags next b f = record {
   on = λ path s. (
     (tt, tt),
@@ -255,6 +261,7 @@ pub fit_open_at : {asked : Asking} {seen : List Seen} {holds : List Hold} {marks
     (hold.Fd fd ∷ hold.Pin row (Some dir) ∷ holds) marks
     (record (newly fd notes) { latest = found_by flags fd })) →
     FitOn asked seen (open_at dir name flags next) (hold.Pin row (Some dir) ∷ holds) marks notes
+unfolding on go_on
 fit_open_at {asked = asked} {holds = holds} dir name flags row number next r h f = record {
   on = λ path s. (
     (((hold.Pin row (Some dir), _, here, refl), tt), (record { number = number; row = row }, _, r, here)),
@@ -271,6 +278,7 @@ pub fit_reopen : {asked : Asking} {seen : List Seen} {marks : List ℕ} {notes :
     ((new : Fd) → FitOn asked seen (next new) (over dropped (hold.Fd new ∷ hold.Pin row (Some fd) ∷ holds)) marks
     (record (newly new notes) { reopened = Some new })) →
     FitOn asked seen (reopen fd flags next) (over dropped (hold.Pin row (Some fd) ∷ holds)) marks notes
+unfolding on go_on
 fit_reopen {asked = asked} {notes = notes} holds dropped fd flags row number next r f = record {
   on = λ path s. (
     subst (λ (all : List Hold). KnowsAll all (fd ∷ []) × PinsLatest (at_job all notes) fd)
@@ -292,6 +300,7 @@ pub fit_stat : {asked : Asking} {seen : List Seen} {holds : List Hold} {marks : 
     ((told : Stat) → FitOn asked (Ids fd told.ids ∷ seen) (next told) (hold.Fd fd ∷ holds) marks
     (looked_by fd told.ids notes)) →
     FitOn asked seen (stat fd next) (hold.Fd fd ∷ holds) marks notes
+unfolding on go_on
 fit_stat {asked = asked} {holds = holds} fd next f = record {
   on = λ path s. (
     (((hold.Fd fd, _, here, refl), tt), tt),
@@ -305,13 +314,14 @@ fit_stat {asked = asked} {holds = holds} fd next f = record {
 
 pub fit_claim : {asked : Asking} {seen : List Seen} {holds : List Hold} {marks : List ℕ}
     {notes : Notes} (session : BegunSession)
-    (fd : Fd) (ids : ObjIds) (next : ℕ → RequestTree) (absent : RequestTree) →
+    (fd : Fd) (ids : ObjIds) (next : Option ℕ → RequestTree) →
     notes.era ≡ Some session.era → notes.latest ≡ Some fd → IsToldLast notes fd ids →
-    ((number : ℕ) → FitOn asked seen (next number) (hold.Count session.era number ∷ hold.Fd fd ∷ holds)
+    ((number : ℕ) → FitOn asked seen (next (Some number)) (hold.Count session.era number ∷ hold.Fd fd ∷ holds)
     marks (with_given number ids notes)) →
-    FitOn asked seen absent (hold.Fd fd ∷ holds) marks notes →
-    FitOn asked seen (claim session None ids next absent) (hold.Fd fd ∷ holds) marks notes
-fit_claim {asked = asked} {holds = holds} session fd ids next absent e l t f g = record {
+    FitOn asked seen (next None) (hold.Fd fd ∷ holds) marks notes →
+    FitOn asked seen (claim session None ids next) (hold.Fd fd ∷ holds) marks notes
+unfolding on go_on
+fit_claim {asked = asked} {holds = holds} session fd ids next e l t f g = record {
   on = λ path s. (
     (tt, (fd, e, l, (_, here, t.0, t.1))),
     elim [
@@ -326,6 +336,7 @@ pub fit_take_fd : {asked : Asking} {seen : List Seen} {holds : List Hold} {marks
     {notes : Notes} (fd : Fd) (next : RequestTree) →
     FitOn asked seen next (hold.Fd fd ∷ hold.Slot ∷ holds) marks notes →
     FitOn asked seen (take_fd next) (hold.Fd fd ∷ holds) marks notes
+unfolding on go_on
 fit_take_fd {asked = asked} {holds = holds} fd next f = record {
   on = λ path s. (
     (tt, tt),
@@ -340,6 +351,7 @@ pub fit_draw_node : {asked : Asking} {seen : List Seen} {holds : List Hold} {mar
     {notes : Notes} (next : ℕ → RequestTree) →
     ((number : ℕ) → FitOn asked seen (next number) holds marks (record notes { drawn = Some number })) →
     FitOn asked seen (draw_node next) holds marks notes
+unfolding on go_on
 fit_draw_node {asked = asked} {holds = holds} next f = record {
   on = λ path s. (
     (tt, tt),
@@ -354,6 +366,7 @@ pub fit_draw_handle : {asked : Asking} {seen : List Seen} {holds : List Hold} {m
     {notes : Notes} (next : ℕ → RequestTree) →
     ((handle : ℕ) → FitOn asked seen (next handle) holds marks (record notes { handle = Some handle })) →
     FitOn asked seen (draw_handle next) holds marks notes
+unfolding on go_on
 fit_draw_handle {asked = asked} {holds = holds} next f = record {
   on = λ path s. (
     (tt, tt),
@@ -376,6 +389,7 @@ pub fit_insert : {asked : Asking} {seen : List Seen} {holds : List Hold} {marks 
     (with_given number told.ids notes)) →
     FitOn asked seen (insert session fresh (File fd) told next)
     (hold.Fd fd ∷ hold.Slot ∷ holds) marks notes
+unfolding on go_on
 fit_insert {asked = asked} {holds = holds} session fresh fd told next b e l d t f g = record {
   on = λ path s. (
     (lies, (e, l, d, (_, here, t.0, t.1))),
@@ -398,6 +412,7 @@ pub fit_insert_root : {asked : Asking} {seen : List Seen} {holds : List Hold} {m
     notes.root ≡ Some fd → IsToldLast notes fd told.ids → FitOn asked seen next holds marks (unnoted fd notes) →
     FitOn asked seen (insert_root session (File fd) told agreed next)
     (hold.Fd fd ∷ hold.Slot ∷ holds) marks notes
+unfolding on go_on
 fit_insert_root {asked = asked} {holds = holds} session fd told agreed next e r t f = record {
   on = λ path s. (
     (lies, (e, r, (_, here, t.0, t.1))),
@@ -418,6 +433,7 @@ pub fit_insert_handle : {asked : Asking} {seen : List Seen} {holds : List Hold} 
     notes.resolved ≡ Some (record { number = number; row = row }) →
     notes.reopened ≡ Some fd → FitOn asked seen next holds marks (record (unnoted fd notes) { handle = None }) →
     FitOn asked seen (insert_handle session handle number fd next) (hold.Fd fd ∷ hold.Slot ∷ holds) marks notes
+unfolding on go_on
 fit_insert_handle {asked = asked} {holds = holds} session handle number row fd next e h r o f = record {
   on = λ path s. (
     (lies, (e, h, inl (row, r, o))),
@@ -434,6 +450,7 @@ pub fit_pin_handle : {asked : Asking} {seen : List Seen} {holds : List Hold} {ma
     (next : Fd → RequestTree) → IsBare holds →
     ((row : ℕ) (fd : Fd) → FitOn asked seen (next fd) (hold.HandlePin row fd ∷ holds) marks notes) →
     FitOn asked seen (pin_handle handle number next) holds marks notes
+unfolding on go_on
 fit_pin_handle {asked = asked} {holds = holds} handle number next b f = record {
   on = λ path s. (
     (tt, tt),
@@ -450,6 +467,7 @@ pub fit_forget_all : {asked : Asking} {seen : List Seen} {holds : List Hold} {ma
     (next : RequestTree) → notes.brought ≡ None →
     ((later : Notes) → Lasts notes later → FitOn asked seen next holds marks later) →
     FitOn asked seen (forget_all list next) holds marks notes
+unfolding on go_on
 fit_forget_all {asked = asked} {holds = holds} {notes = notes} list next n f = record {
   on = λ path s. (
     (tt, tt),
@@ -465,6 +483,7 @@ pub fit_release_handle : {asked : Asking} {seen : List Seen} {holds : List Hold}
     (next : RequestTree) → notes.brought ≡ None →
     ((later : Notes) → Lasts notes later → FitOn asked seen next holds marks later) →
     FitOn asked seen (release_handle handle number next) holds marks notes
+unfolding on go_on
 fit_release_handle {asked = asked} {holds = holds} {notes = notes} handle number next n f = record {
   on = λ path s. (
     (tt, tt),
@@ -484,11 +503,27 @@ pub fit_checked : {asked : Asking} {seen : List Seen} {holds : List Hold} {marks
 fit_checked true next c f = record { on = λ path s. (tt, inl (c refl), tt) }
 fit_checked false next c f = f
 
+-- a name that is none, an offset that is none
+pub fit_name : {asked : Asking} {seen : List Seen} {holds : List Hold} {marks : List ℕ}
+    {notes : Notes} (name : List ℕ)
+    (next : RequestTree) → (is_bad_name name ≡ true → OwnCause asked.plan asked.who asked.request einval) →
+    FitOn asked seen next holds marks notes → FitOn asked seen (named name next) holds marks notes
+unfolding named
+fit_name name next c f = fit_checked (is_bad_name name) next c f
+
+pub fit_place : {asked : Asking} {seen : List Seen} {holds : List Hold} {marks : List ℕ}
+    {notes : Notes} (offset : ℕ)
+    (next : RequestTree) → (is_bad_offset offset ≡ true → OwnCause asked.plan asked.who asked.request einval) →
+    FitOn asked seen next holds marks notes → FitOn asked seen (placed offset next) holds marks notes
+unfolding placed
+fit_place offset next c f = fit_checked (is_bad_offset offset) next c f
+
 -- the newest descriptor gets a slot, where a count lies on it
 pub fit_take_under : {asked : Asking} {seen : List Seen} {holds : List Hold} {marks : List ℕ}
     {notes : Notes} (era number : ℕ) (fd : Fd) (next : RequestTree) →
     FitOn asked seen next (hold.Count era number ∷ hold.Fd fd ∷ hold.Slot ∷ holds) marks notes →
     FitOn asked seen (take_fd next) (hold.Count era number ∷ hold.Fd fd ∷ holds) marks notes
+unfolding on go_on
 fit_take_under {asked = asked} {holds = holds} era number fd next f = record {
   on = λ path s. (
     (tt, tt),
@@ -507,6 +542,7 @@ pub fit_insert_given : {asked : Asking} {seen : List Seen} {holds : List Hold} {
     FitOn asked seen next (hold.Count era number ∷ holds) marks (record (unnoted fd notes) { handle = None }) →
     FitOn asked seen (insert_handle session handle number fd next)
     (hold.Count era number ∷ hold.Fd fd ∷ hold.Slot ∷ holds) marks notes
+unfolding on go_on
 fit_insert_given {asked = asked} {holds = holds} session handle era number fd ids next e h g t f = record {
   on = λ path s. (
     (under refl lies, (e, h, inr (ids, g, (_, there here, t.0, t.1)))),

@@ -1,6 +1,5 @@
 -- Each request is fit.
-use Rattle.std.proofs.Common.{◌≡◌, ◌∷◌, [], inl, inr, ℕ, Bool, true, false, if◌then◌else◌, List, None, Some, refl}
-use Rattle.pt_host.specs.Errno.{eacces}
+use Rattle.std.proofs.Common.{◌≡◌, ◌∷◌, [], inl, inr, ℕ, Bool, true, false, List, None, Some, refl}
 use Rattle.pt_host.specs.Flags.{o_directory}
 use Rattle.pt_host.specs.Words.{Takes.{here, there}}
 use Rattle.pt_host.specs.declared.ids.Fd.{Fd}
@@ -20,16 +19,16 @@ use Rattle.pt_frame.specs.Tree.{Gives}
 use Rattle.pt_frame.specs.declared.act.ActReply.TheVariants.{Host}
 use Rattle.pt_frame.specs.declared.hold.Hold.{Hold}
 use Rattle.pt_frame.specs.declared.hold.Hold.TheVariants as hold
-use Rattle.pt_req.specs.Entries.{attr_of, is_bad_name, is_bad_offset}
+use Rattle.pt_req.specs.Entries.{attr_of}
 use Rattle.pt_req.specs.Options.{agreed_with, init_options, open_options, with_bits}
 use Rattle.pt_req.specs.Requests.{batch_forget, destroy, init, lookup, open_file, read, release, root}
-use Rattle.pt_req.specs.Steps.{session_of}
+use Rattle.pt_req.specs.Steps.{session_of, begin}
 use Rattle.pt_req.specs.declared.plan.Plan.{Plan}
-use Rattle.pt_attr.specs.Pattern.{tree_of}
+use Rattle.pt_job.specs.Pattern.{tree_of}
 use Rattle.pt_attr.specs.Access.{is_granted}
-use Rattle.pt_attr.specs.Making.{object_asked}
-use Rattle.pt_attr.specs.declared.requests.making.Made.TheVariants as made_as
-use Rattle.pt_attr.specs.Requests.{access, getattr, link, readlink, rename, rmdir, statfs, unlink}
+use Rattle.pt_job.specs.Requests.{object_asked}
+use Rattle.pt_fit.proofs.ObjectKinds.{Directory, Link, Node}
+use Rattle.pt_attr.specs.Requests.{access, allowed, getattr, link, readlink, rename, rmdir, statfs, unlink}
 use Rattle.pt_law.specs.Discipline.{Notes, blank}
 use Rattle.pt_law.specs.Naming.{made}
 use Rattle.pt_fit.specs.Cause.{Asking, OpensFile, asking}
@@ -43,22 +42,22 @@ use Rattle.pt_fit.proofs.Setting.{fit_setattr}
 use Rattle.pt_fit.proofs.Objects.{fit_named}
 use Rattle.pt_fit.proofs.Joined.{after_any_step, fit_file_by, fit_files_by, fit_gives, fit_look_up, fit_open_num}
 use Rattle.pt_fit.proofs.Joined.{fit_root_open, fit_unserved}
-use Rattle.pt_fit.proofs.Parts.{FitOn, GoesAfter, fit_begin, fit_checked, fit_clear, fit_forget_all, fit_pin_handle}
-use Rattle.pt_fit.proofs.Parts.{fit_release_handle, Seen}
+use Rattle.pt_fit.proofs.Parts.{FitOn, GoesAfter, fit_begin, fit_clear, fit_forget_all, fit_name, fit_pin_handle}
+use Rattle.pt_fit.proofs.Parts.{fit_place, fit_release_handle, Seen}
 
-fit_root : (asked : Asking) (plan : Plan) → FitOn asked [] (root plan) [] [] blank
+fit_root : (asked : Asking) (plan : Plan) → FitOn asked [] (begin (root plan)) [] [] blank
 fit_root asked plan = fit_begin _ refl (λ session.
     fit_root_open plan session None _ nothing_bare refl refl refl (λ fd told later.
     fit_gives answer.Done (λ path. (tt, tt, tt))))
 
 fit_lookup : (plan : Plan) (who : Context) (parent : ℕ) (name : List ℕ) →
-    FitOn (asking plan who (request.Lookup parent name)) [] (lookup plan parent name) [] [] blank
+    FitOn (asking plan who (request.Lookup parent name)) [] (begin (lookup plan parent name)) [] [] blank
 fit_lookup plan who parent name = fit_begin _ refl (λ session.
-    fit_checked (is_bad_name name) _ (λ bad. (bad, refl))
+    fit_name name _ (λ bad. (bad, refl))
     (fit_look_up plan session parent name _ nothing_bare refl refl (λ looked found later l.
     fit_gives (answer.Entry looked.entry) (λ path. (refl, tt, tt)))))
 
-fit_forget : (asked : Asking) (list : List (ℕ × ℕ)) → FitOn asked [] (batch_forget list) [] [] blank
+fit_forget : (asked : Asking) (list : List (ℕ × ℕ)) → FitOn asked [] (begin (batch_forget list)) [] [] blank
 fit_forget asked list = fit_begin _ refl (λ session.
     fit_forget_all list _ refl (λ later l. fit_gives answer.NoReply (λ path. (tt, tt, tt))))
 
@@ -73,36 +72,37 @@ fit_destroy : (asked : Asking) → FitOn asked [] destroy [] [] blank
 fit_destroy asked = fit_clear _ refl refl (λ era later l. fit_gives answer.NoReply (λ path. (tt, tt, tt)))
 
 fit_open : (asked : Asking) (plan : Plan) (seat : HostSeat) (inode : ℕ) (kill : Bool) (flags : ℕ) →
-    OpensFile asked.request → FitOn asked [] (open_file plan seat inode kill flags) [] [] blank
+    OpensFile asked.request → FitOn asked [] (begin (open_file plan seat inode kill flags)) [] [] blank
 fit_open asked plan seat inode kill flags o = fit_begin _ refl (λ session.
     fit_open_num plan seat session inode kill flags _ o nothing_bare refl (λ handle later.
     fit_gives (answer.Opened handle (open_options plan.config flags)) (λ path. (tt, tt, tt))))
 
-fit_release : (asked : Asking) (inode handle : ℕ) → FitOn asked [] (release inode handle) [] [] blank
+fit_release : (asked : Asking) (inode handle : ℕ) → FitOn asked [] (begin (release inode handle)) [] [] blank
 fit_release asked inode handle = fit_begin _ refl (λ session.
     fit_release_handle handle inode _ refl (λ later l. fit_gives answer.Done (λ path. (tt, tt, tt))))
 
 fit_read : (plan : Plan) (who : Context) (inode handle size offset : ℕ) →
-    FitOn (asking plan who (request.Read inode handle size offset)) [] (read inode handle size offset) [] [] blank
+    FitOn (asking plan who (request.Read inode handle size offset)) [] (begin (read inode handle size offset)) [] []
+    blank
 fit_read plan who inode handle size offset = fit_begin _ refl (λ session.
-    fit_checked (is_bad_offset offset) _ (λ bad. (bad, refl))
+    fit_place offset _ (λ bad. (bad, refl))
     (fit_pin_handle handle inode _ nothing_bare (λ row fd.
     fit_read_at fd offset size row _ (λ bytes. fit_gives (answer.Read bytes) (λ path. (tt, tt, tt))))))
 
 fit_readlink : (plan : Plan) (who : Context) (inode : ℕ) →
-    FitOn (asking plan who (request.Readlink inode)) [] (readlink inode) [] [] blank
+    FitOn (asking plan who (request.Readlink inode)) [] (begin (readlink inode)) [] [] blank
 fit_readlink plan who inode = fit_begin _ refl (λ session.
     fit_file_by inode _ nothing_bare (λ row fd.
     fit_read_link fd row _ (λ target. fit_gives (answer.Link target) (λ path. (tt, tt, tt)))))
 
 fit_statfs : (plan : Plan) (who : Context) (inode : ℕ) →
-    FitOn (asking plan who (request.StatFs inode)) [] (statfs inode) [] [] blank
+    FitOn (asking plan who (request.StatFs inode)) [] (begin (statfs inode)) [] [] blank
 fit_statfs plan who inode = fit_begin _ refl (λ session.
     fit_file_by inode _ nothing_bare (λ row fd.
     fit_stat_fs fd row _ (λ told. fit_gives (answer.FsStat told) (λ path. (tt, tt, tt)))))
 
 fit_getattr : (plan : Plan) (who : Context) (inode : ℕ) →
-    FitOn (asking plan who (request.GetAttr inode)) [] (getattr plan inode) [] [] blank
+    FitOn (asking plan who (request.GetAttr inode)) [] (begin (getattr plan inode)) [] [] blank
 fit_getattr plan who inode = fit_begin _ refl (λ session.
     fit_file_by inode _ nothing_bare (λ row fd.
     fit_look_at fd _ (((hold.Pin row (Some fd), _, here, refl), tt), tt) (λ told.
@@ -111,7 +111,7 @@ fit_getattr plan who inode = fit_begin _ refl (λ session.
 
 -- what the status does not grant is refused, of which it is the cause
 fit_access : (plan : Plan) (who : Context) (inode mask : ℕ) →
-    FitOn (asking plan who (request.Access inode mask)) [] (access plan who inode mask) [] [] blank
+    FitOn (asking plan who (request.Access inode mask)) [] (begin (access plan who inode mask)) [] [] blank
 fit_access plan who inode mask = fit_begin _ refl (λ session.
     fit_file_by inode _ nothing_bare (λ row fd.
     fit_look_at fd _ (((hold.Pin row (Some fd), _, here, refl), tt), tt) (λ told.
@@ -121,15 +121,15 @@ fit_access plan who inode mask = fit_begin _ refl (λ session.
         (granted : Bool) → is_granted who mask (attr_of plan told 0) ≡ granted →
         GoesAfter (made (Calls (call.Stat fd)) (Host (host.Ok (value.Stat told))))
         (asking plan who (request.Access inode mask)) seen
-        (Gives (if granted then answer.Done else answer.Refused eacces)) holds marks notes
+        (Gives (allowed granted)) holds marks notes
     decided told true e = record { on = λ path s. (tt, tt, tt) }
     decided {fd = fd} told false e =
         record { on = λ path s. (tt, inr (inr ((fd, told, inl (refl, refl), e), refl)), tt) }
 
 fit_unlink : (plan : Plan) (who : Context) (parent : ℕ) (name : List ℕ) →
-    FitOn (asking plan who (request.Unlink parent name)) [] (unlink parent name) [] [] blank
+    FitOn (asking plan who (request.Unlink parent name)) [] (begin (unlink parent name)) [] [] blank
 fit_unlink plan who parent name = fit_begin _ refl (λ session.
-    fit_checked (is_bad_name name) _ (λ bad. (bad, refl))
+    fit_name name _ (λ bad. (bad, refl))
     (fit_file_by parent _ nothing_bare (λ row dir.
     fit_do_call (call.Unlink dir name) _
     (record { holds = λ told these. refl; notes = λ told these. refl })
@@ -137,9 +137,9 @@ fit_unlink plan who parent name = fit_begin _ refl (λ session.
     (fit_gives answer.Done (λ path. (tt, tt, tt))))))
 
 fit_rmdir : (plan : Plan) (who : Context) (parent : ℕ) (name : List ℕ) →
-    FitOn (asking plan who (request.Rmdir parent name)) [] (rmdir parent name) [] [] blank
+    FitOn (asking plan who (request.Rmdir parent name)) [] (begin (rmdir parent name)) [] [] blank
 fit_rmdir plan who parent name = fit_begin _ refl (λ session.
-    fit_checked (is_bad_name name) _ (λ bad. (bad, refl))
+    fit_name name _ (λ bad. (bad, refl))
     (fit_file_by parent _ nothing_bare (λ row dir.
     fit_do_call (call.RemoveDir dir name) _
     (record { holds = λ told these. refl; notes = λ told these. refl })
@@ -149,10 +149,10 @@ fit_rmdir plan who parent name = fit_begin _ refl (λ session.
 fit_rename : (plan : Plan) (who : Context) (olddir : ℕ) (oldname : List ℕ) (newdir : ℕ) (newname : List ℕ)
     (flags : ℕ) →
     FitOn (asking plan who (request.Rename olddir oldname newdir newname flags)) []
-    (rename olddir oldname newdir newname flags) [] [] blank
+    (begin (rename olddir oldname newdir newname flags)) [] [] blank
 fit_rename plan who olddir oldname newdir newname flags = fit_begin _ refl (λ session.
-    fit_checked (is_bad_name oldname) _ (λ bad. (inl bad, refl))
-    (fit_checked (is_bad_name newname) _ (λ bad. (inr bad, refl))
+    fit_name oldname _ (λ bad. (inl bad, refl))
+    (fit_name newname _ (λ bad. (inr bad, refl))
     (fit_files_by olddir newdir _ (λ one other from to.
     fit_do_call (call.Rename from oldname to newname flags) _
     (record { holds = λ told these. refl; notes = λ told these. refl }) (
@@ -165,9 +165,10 @@ fit_rename plan who olddir oldname newdir newname flags = fit_begin _ refl (λ s
     (fit_gives answer.Done (λ path. (tt, tt, tt)))))))
 
 fit_link : (plan : Plan) (who : Context) (inode newparent : ℕ) (newname : List ℕ) →
-    FitOn (asking plan who (request.Link inode newparent newname)) [] (link plan inode newparent newname) [] [] blank
+    FitOn (asking plan who (request.Link inode newparent newname)) [] (begin (link plan inode newparent newname)) []
+    [] blank
 fit_link plan who inode newparent newname = fit_begin _ refl (λ session.
-    fit_checked (is_bad_name newname) _ (λ bad. (bad, refl))
+    fit_name newname _ (λ bad. (bad, refl))
     (fit_files_by inode newparent _ (λ one other from dir.
     fit_do_call (call.MakeLink from dir newname) _
     (record { holds = λ told these. refl; notes = λ told these. refl }) (
@@ -202,15 +203,15 @@ fits plan seat who (request.Create parent name mode kill flags umask ext) =
     fit_create plan who parent name mode kill flags umask ext seat
 fits plan seat who (request.Mkdir parent name mode umask ext) =
     fit_named plan seat who (request.Mkdir parent name mode umask ext)
-    (object_asked who parent name ext (made_as.Directory mode)) (λ bad. inl (bad, refl)) (λ bad. absurd (cc))
+    (object_asked who parent name ext) (Directory mode) (λ bad. inl (bad, refl)) (λ bad. absurd (cc))
     (λ session none. inr (forbidden_from _ _ _ _ none, refl)) (λ agreed blocks. blocks) (λ entry. tt)
 fits plan seat who (request.Mknod parent name mode rdev umask ext) =
     fit_named plan seat who (request.Mknod parent name mode rdev umask ext)
-    (object_asked who parent name ext (made_as.Node mode rdev)) (λ bad. inl (bad, refl)) (λ bad. absurd (cc))
+    (object_asked who parent name ext) (Node mode rdev) (λ bad. inl (bad, refl)) (λ bad. absurd (cc))
     (λ session none. inr (forbidden_from _ _ _ _ none, refl)) (λ agreed blocks. blocks) (λ entry. tt)
 fits plan seat who (request.Symlink target parent name ext) =
     fit_named plan seat who (request.Symlink target parent name ext)
-    (object_asked who parent name ext (made_as.Link target)) (λ bad. inl (inl (bad, refl))) (λ bad. inr (bad, refl))
+    (object_asked who parent name ext) (Link target) (λ bad. inl (inl (bad, refl))) (λ bad. inr (bad, refl))
     (λ session none. inl (inr (forbidden_from _ _ _ _ none, refl))) (λ agreed blocks. blocks) (λ entry. tt)
 fits plan seat who (request.Readlink inode) = fit_readlink plan who inode
 fits plan seat who (request.StatFs inode) = fit_statfs plan who inode
@@ -237,8 +238,7 @@ fits plan seat who (request.Fsync inode handle datasync) =
 fits plan seat who (request.FsyncDir inode handle datasync) =
     fit_fsync (asking plan who (request.FsyncDir inode handle datasync)) inode handle datasync
 fits plan seat who (request.SyncFs inode) = fit_syncfs plan who inode
-fits plan seat who (request.Other opcode) = fit_unserved (asking plan who (request.Other opcode)) refl
-fits plan seat who what = fit_unserved (asking plan who what) ((λ no. no), refl)
+fits plan seat who what = fit_unserved (asking plan who what) refl
 
 -- Each request's tree is fit.
 pub fit_request : (plan : Plan) (seat : HostSeat) (who : Context) (what : Request) →

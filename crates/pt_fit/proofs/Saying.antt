@@ -1,10 +1,12 @@
 -- What a job says to be agreed on is what it decides, for a session that it begins itself.
 use Rattle.std.proofs.Common.{inl, inr, Bool, true, false, List, [], ◌∷◌, ◌++◌, Option, refl, sym, subst}
+use Rattle.std.proofs.Common.{ℕ, Some, None}
 use Rattle.pt_host.specs.Call.{Call}
 use Rattle.pt_host.specs.declared.op.KeptHostOp.TheVariants as call
 use Rattle.pt_host.specs.declared.reply.HostReply.TheVariants as host
 use Rattle.pt_host.specs.declared.seat.HostSeat.{HostSeat}
-use Rattle.pt_creds.specs.Steps.{cred_steps, calls_of}
+use Rattle.pt_creds.specs.Steps.{cred_steps}
+use Rattle.pt_creds.specs.declared.credentials.CredSteps.{CredSteps}
 use Rattle.pt_session.specs.declared.event.KeptEvent.TheVariants as change
 use Rattle.pt_session.specs.declared.form.Negotiated.{Negotiated}
 use Rattle.pt_iface.specs.declared.request.Context.{Context}
@@ -20,12 +22,13 @@ use Rattle.pt_frame.specs.declared.act.ActReply.TheVariants.{Host}
 use Rattle.pt_frame.specs.declared.finish.Finish.{Finish}
 use Rattle.pt_frame.specs.declared.hold.Hold.{Hold}
 use Rattle.pt_frame.specs.declared.hold.Hold.TheVariants as hold
-use Rattle.pt_req.specs.Asker.{taken_on}
+use Rattle.pt_req.specs.Asker.{cap_raised, egid_set, euid_set, group_set, taken_on}
+use Rattle.pt_req.specs.Steps.{open_scope}
 use Rattle.pt_req.specs.declared.plan.Plan.{Plan}
 use Rattle.pt_req.proofs.Replying.{if_set, if_tried}
 use Rattle.pt_req.proofs.Walking.{InScope, OfDeed, Walk}
-use Rattle.pt_attr.specs.Pattern.{Asked, Requests, Edits, grammar_for, tree_of}
-use Rattle.pt_attr.proofs.Walking.{OfScopes, each_request, of_any}
+use Rattle.pt_job.specs.Pattern.{Asked, Requests, Edits, grammar_for, tree_of}
+use Rattle.pt_job.proofs.Walking.{OfScopes, each_request, of_any}
 use Rattle.pt_law.specs.Agreed.{Says, Begins, Decides}
 use Rattle.pt_law.proofs.Doing.{Does, OfReturns, All, all_framed, steps_so, cut_so}
 use Rattle.pt_fit.specs.Answered.{ComesToAnswer}
@@ -69,28 +72,32 @@ module _ (decided : Option Negotiated) where
   in_scope told (Shuts passes rest) so = absurd so
   in_scope told (Allocates rest) so = absurd so
 
-  as_asker : (calls : List Call) (next : RequestTree) → Saying next → Saying (taken_on calls next)
-  as_asker [] next so = so
-  as_asker (call.SetGroups list ∷ calls) next so = (
-    tt,
-    if_set (λ told tree. Saying tree) (taken_on calls next)
-        (λ told. tt) (λ told. as_asker calls next so),
-  )
-  as_asker (call.SetEgid gid ∷ calls) next so = (
-    tt,
-    if_set (λ told tree. Saying tree) (taken_on calls next)
-        (λ told. tt) (λ told. as_asker calls next so),
-  )
-  as_asker (call.SetEuid uid ∷ calls) next so = (
-    tt,
-    if_set (λ told tree. Saying tree) (taken_on calls next)
-        (λ told. tt) (λ told. as_asker calls next so),
-  )
-  as_asker (asked ∷ calls) next so = (
-    tt,
-    if_tried (λ told tree. Saying tree) (taken_on calls next)
-        (λ told. tt) (λ told. as_asker calls next so),
-  )
+  opens_saying : (asked : Call) (scope : Hold) (next : RequestTree) → Saying next →
+      Saying (open_scope asked scope next)
+  opens_saying asked scope next so = (tt, if_set (λ told tree. Saying tree) next (λ told. tt) (λ told. so))
+
+  raises : (raise : Bool) (next : RequestTree) → Saying next → Saying (cap_raised raise next)
+  raises false next so = so
+  raises true next so = (tt, if_tried (λ told tree. Saying tree) next (λ told. tt) (λ told. so))
+
+  sets_euid : (euid : Option ℕ) (next : RequestTree) → Saying next → Saying (euid_set euid next)
+  sets_euid None next so = so
+  sets_euid (Some uid) next so = opens_saying (call.SetEuid uid) hold.EffectiveUid next so
+
+  sets_egid : (egid : Option ℕ) (next : RequestTree) → Saying next → Saying (egid_set egid next)
+  sets_egid None next so = so
+  sets_egid (Some gid) next so = opens_saying (call.SetEgid gid) hold.EffectiveGid next so
+
+  sets_group : (groups : Option ℕ) (next : RequestTree) → Saying next → Saying (group_set groups next)
+  sets_group None next so = so
+  sets_group (Some group) next so = opens_saying (call.SetGroups (group ∷ [])) hold.Groups next so
+
+  as_asker : (steps : CredSteps) (next : RequestTree) → Saying next → Saying (taken_on steps next)
+  as_asker steps next so =
+      let raised : RequestTree = cap_raised steps.raise next in
+      let under_uid : RequestTree = euid_set steps.euid raised in
+      sets_group steps.groups (egid_set steps.egid under_uid)
+      (sets_egid steps.egid under_uid (sets_euid steps.euid raised (raises steps.raise next so)))
 
   saying : (seat : HostSeat) → Walk seat (λ creds. Unit {0}) SaysSo Saying (λ told tree. Saying tree)
   saying seat = record {
@@ -106,7 +113,7 @@ module _ (decided : Option Negotiated) where
     shuts = λ passes rest so. so;
     shuts_after = λ told passes rest so. so;
     makes_as = λ creds making next is may so.
-        as_asker (calls_of (cred_steps creds seat)) (Asks (Calls making) (λ told. Bares (next told))) (tt, so);
+        as_asker (cred_steps creds seat) (Asks (Calls making) (λ told. Bares (next told))) (tt, so);
     bares = λ rest so. so;
     drops = λ rest has so. (
       tt,

@@ -1,5 +1,5 @@
 -- A scope that a call of the seat opens, what is asked within it, and its end: each is fit.
-use Rattle.std.proofs.Common.{◌≡◌, ℕ, List, [], ◌∷◌, Bool, true, false, ◌&&◌, if◌then◌else◌, Some}
+use Rattle.std.proofs.Common.{◌≡◌, ℕ, List, [], ◌∷◌, Bool, true, false, ◌&&◌, if◌then◌else◌, Some, None}
 use Rattle.std.proofs.Common.{inl, inr, refl, subst, sym}
 use Rattle.pt_host.specs.Words.{Takes.{here}}
 use Rattle.pt_host.specs.Call.{Call}
@@ -14,13 +14,15 @@ use Rattle.pt_host.specs.declared.reply.HostValue.TheVariants as value
 use Rattle.pt_frame.specs.Deed.{Deed, Calls, Step}
 use Rattle.pt_frame.specs.Held.{laid}
 use Rattle.pt_frame.specs.Replies.{refusal}
-use Rattle.pt_frame.specs.Tree.{RequestTree, Refuses, Bares}
+use Rattle.pt_frame.specs.Tree.{RequestTree, Bares, on, go_on}
 use Rattle.pt_frame.specs.declared.act.ActReply.{ActReply}
 use Rattle.pt_frame.specs.declared.act.ActReply.TheVariants.{Event, Host, NoCopy}
 use Rattle.pt_frame.specs.declared.hold.Hold.{Hold}
 use Rattle.pt_frame.specs.declared.hold.Hold.TheVariants as hold
 use Rattle.pt_req.specs.Capability.{fsetid, without_fsetid}
 use Rattle.pt_req.specs.Steps.{open_scope, try_call, is_there, make_at}
+use Rattle.pt_req.specs.declared.replies.Made.{Made}
+use Rattle.pt_req.specs.declared.replies.Made.TheVariants.{New, Old}
 use Rattle.pt_law.specs.Discipline.{Notes, found_by, newly, KnowsAll, PinsLatest, at_job}
 use Rattle.pt_law.specs.Keeps.{MayOpen, uncovered, unscoped}
 use Rattle.pt_law.specs.Naming.{made}
@@ -36,6 +38,7 @@ pub fit_open_scope : {asked : Asking} {seen : List Seen} {holds : List Hold} {ma
     ((errno : Errno) → caused asked call errno ≡ Some errno) → MayOpen (sort_of call) scope →
     FitOn asked seen next (scope ∷ holds) marks notes →
     FitOn asked seen (open_scope call scope next) holds marks notes
+unfolding on go_on
 fit_open_scope {asked = asked} {holds = holds} call scope next h may f = record {
   on = λ path s. (
     may,
@@ -66,6 +69,7 @@ fit_bares {asked = asked} {holds = holds} {marks = marks} {notes = notes} droppe
 pub fit_raise : {asked : Asking} {seen : List Seen} {holds : List Hold} {marks : List ℕ}
     {notes : Notes} (caps : Caps) (next : RequestTree) → FitOn asked seen next holds marks notes →
     FitOn asked seen (try_call (call.RaiseCap caps) next) holds marks notes
+unfolding on go_on
 fit_raise caps next f = record {
   on = λ path s. (
     (tt, tt),
@@ -86,21 +90,22 @@ pub record Covers (holds bare : List Hold) : Type 0 where
 -- As whoever asks a name is made in what was resolved last, and the scopes end; or it was there.
 pub fit_make_at : {asked : Asking} {seen : List Seen} {marks : List ℕ} {notes : Notes}
     (holds bare : List Hold) (dir : Fd) (name : List ℕ) (flags : OpenFlags) (mode row number : ℕ)
-    (next : Fd → RequestTree) (may_be : Bool) (old : RequestTree) →
+    (may_be : Bool) (next : Made → RequestTree) →
     Covers holds (hold.Pin row (Some dir) ∷ bare) → notes.resolved ≡ Some (record { number = number; row = row }) →
     ((errno : Errno) → (is_there (Host (host.Refused errno)) && may_be) ≡ false →
     caused asked (call.OpenAt dir name flags mode) errno ≡ Some errno) →
-    ((fd : Fd) → FitOn asked (Opened name flags mode fd ∷ seen) (next fd)
+    ((fd : Fd) → FitOn asked (Opened name flags mode fd ∷ seen) (next (New fd))
     (hold.Fd fd ∷ hold.Pin row (Some dir) ∷ bare) marks (record (newly fd notes) { latest = found_by flags fd })) →
-    (may_be ≡ true → FitOn asked seen old (hold.Pin row (Some dir) ∷ bare) marks notes) →
-    FitOn asked seen (make_at dir name flags mode next may_be old) holds marks notes
+    (may_be ≡ true → FitOn asked seen (next Old) (hold.Pin row (Some dir) ∷ bare) marks notes) →
+    FitOn asked seen (make_at dir name flags mode may_be next) holds marks notes
+unfolding on go_on
 fit_make_at {asked = asked} {seen = seen} {marks = marks} {notes = notes} holds bare dir name flags mode row number
-    next may_be old c r h f g = record {
+    may_be next c r h f g = record {
       on = λ path s. (
         subst (λ (all : List Hold). KnowsAll all (dir ∷ []) × PinsLatest (at_job all notes) dir) (sym c.unscopes)
             (((hold.Pin row (Some dir), _, here, refl), tt), (record { number = number; row = row }, _, r, here)),
         elim [
-          | Host (host.Ok (value.Fd fd)) ↦ λ m. held_as asked (next fd) _ _ _ _ _ (c.lays fd)
+          | Host (host.Ok (value.Fd fd)) ↦ λ m. held_as asked (next (New fd)) _ _ _ _ _ (c.lays fd)
               ((f fd).on _ (opened_so dir name flags mode fd s))
           | Host (host.Refused errno) ↦
               λ m. or_old (Host (host.Refused errno)) (is_there (Host (host.Refused errno))) may_be refl path s
@@ -120,9 +125,10 @@ fit_make_at {asked = asked} {seen = seen} {marks = marks} {notes = notes} holds 
 
     or_old : (told : ActReply) (there may : Bool) → may_be ≡ may → (path : List Step) → Told seen path →
         ((there && may) ≡ false → IsCausedLeaf asked (made asks told ∷ path) (refusal told)) →
-        Fit asked (if there && may then old else Refuses told) (uncovered holds) marks notes (made asks told ∷ path)
+        Fit asked (go_on next told (if there && may then Some Old else None)) (uncovered holds) marks notes
+        (made asks told ∷ path)
     or_old told true true may path s caused =
-        held_as asked old (uncovered holds) (hold.Pin row (Some dir) ∷ bare) marks notes (made asks told ∷ path)
+        held_as asked (next Old) (uncovered holds) (hold.Pin row (Some dir) ∷ bare) marks notes (made asks told ∷ path)
         c.uncovers ((g may).on (made asks told ∷ path) (still s))
     or_old told true false may path s caused = caused refl
     or_old told false other may path s caused = caused refl

@@ -23,20 +23,20 @@ use Rattle.pt_frame.specs.Frame.{CutAfter}
 use Rattle.pt_frame.specs.Grammar.{Belongs}
 use Rattle.pt_frame.specs.Past.{no_past, past_of, KeepsGroups}
 use Rattle.pt_frame.specs.Tended.{is_of_seat}
-use Rattle.pt_frame.specs.Tree.{RequestTree, Gives, Refuses, Asks, Opens, Bares, Brackets, Shuts, Allocates}
+use Rattle.pt_frame.specs.Tree.{RequestTree, Gives, Refuses, Asks, Opens, Bares, Brackets, Shuts, Allocates, on}
 use Rattle.pt_frame.specs.declared.act.ActReply.{ActReply}
 use Rattle.pt_frame.specs.declared.act.ActReply.TheVariants.{Event, Host, NoCopy}
 use Rattle.pt_frame.specs.declared.finish.Finish.{Finish}
 use Rattle.pt_frame.specs.declared.hold.Hold.TheVariants as hold
 use Rattle.pt_req.specs.Asker.{asker_from, group_of}
 use Rattle.pt_req.specs.Capability.{fsetid, without_fsetid}
-use Rattle.pt_req.specs.Steps.{on_tried}
+use Rattle.pt_req.specs.Steps.{tried_in}
 use Rattle.pt_req.specs.declared.plan.Plan.{Plan}
 use Rattle.pt_req.proofs.Replying.{if_tried}
 use Rattle.pt_req.proofs.Walking.{InScope, OfAsker, OfDeed, Scoped, Walk, is_making}
-use Rattle.pt_attr.specs.Pattern.{Asked, Requests, Edits, grammar_for, tree_of}
-use Rattle.pt_attr.proofs.Answering.{requests_tend}
-use Rattle.pt_attr.proofs.Walking.{OfMakings, OfScopes, each_request}
+use Rattle.pt_job.specs.Pattern.{Asked, Requests, Edits, grammar_for, tree_of}
+use Rattle.pt_job.proofs.Answering.{requests_tend}
+use Rattle.pt_job.proofs.Walking.{OfMakings, OfScopes, each_request}
 use Rattle.pt_law.specs.Told.{AllMayBeTold}
 use Rattle.pt_law.specs.Under.{Role, lacking, seat_lacking, makes_object, IsCalledAs, IsMadeAs, IsUnrefused, IsSeated}
 use Rattle.pt_law.specs.Under.{AllSeatsAnswer}
@@ -193,7 +193,7 @@ no_scope role seat starts fits few = record {
   had = λ told tree so. so;
   asks = λ deed next own none may so. asked_plainly role seat few deed next own none may so;
   ran_out = λ told deed lacks own none may.
-      asked_plainly role seat few deed (on_tried (Gives answer.NoMemory)) own none may
+      asked_plainly role seat few deed (on tried_in (λ done. Gives answer.NoMemory)) own none may
       (if_tried (λ later tree. Seats role seat tree [] seat) (Gives answer.NoMemory) (λ later. refl)
       (λ later. (refl, λ e. refl)));
   brackets = λ rest so. so;

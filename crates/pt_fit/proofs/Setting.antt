@@ -16,19 +16,21 @@ use Rattle.pt_iface.specs.declared.request.Request.TheVariants as request
 use Rattle.pt_iface.specs.declared.request.SetattrIn.{SetattrIn}
 use Rattle.pt_frame.specs.Deed.{Calls}
 use Rattle.pt_frame.specs.Held.{row_fd}
-use Rattle.pt_frame.specs.Tree.{RequestTree, Bares}
+use Rattle.pt_frame.specs.Tree.{RequestTree}
 use Rattle.pt_frame.specs.declared.hold.Hold.{Hold}
 use Rattle.pt_frame.specs.declared.hold.Hold.TheVariants as hold
-use Rattle.pt_req.specs.Capability.{drops_fsetid, without_fsetid}
+use Rattle.pt_req.specs.Capability.{drops_fsetid}
 use Rattle.pt_req.specs.Entries.{attr_of}
 use Rattle.pt_req.specs.Parts.{file_of, open_row}
-use Rattle.pt_req.specs.Steps.{Resolved}
+use Rattle.pt_req.specs.Steps.{begin}
+use Rattle.pt_req.specs.declared.replies.Resolved.{Resolved}
 use Rattle.pt_req.specs.declared.plan.Plan.{Plan}
 use Rattle.pt_attr.specs.Setting.{atime_set, do_if, file_set, id_set, is_missized, mtime_set, opens_anew, own_as}
 use Rattle.pt_attr.specs.Setting.{set_mode, set_owner, set_size, set_times, setattr, setting_flags, sets_atime}
 use Rattle.pt_attr.specs.Setting.{kills_suidgid, sets_gid, sets_mode, sets_mtime, sets_size, sets_uid, target_of}
-use Rattle.pt_attr.specs.Setting.{tell_attr}
-use Rattle.pt_attr.specs.Steps.{do_call}
+use Rattle.pt_attr.specs.Setting.{cut_if, own_if, sized, target_as}
+use Rattle.pt_attr.specs.Parts.{tell_attr}
+use Rattle.pt_attr.specs.declared.parts.setting.Target.{Target}
 use Rattle.pt_law.specs.Discipline.{Knows, Notes, blank}
 use Rattle.pt_law.specs.Keeps.{MayMake, unscoped}
 use Rattle.pt_fit.specs.Cause.{Asking, IsForbiddenOwner, asking}
@@ -98,23 +100,23 @@ module _ (plan : Plan) (seat : HostSeat) (who : Context) (inode : ℕ) (handle :
       at (sets_uid valid || sets_gid valid)
     where
       at : (is : Bool) → FitOn asks seen
-          (if is then own_as file (id_set (sets_uid valid) (to_host plan.uid_map attr.uid))
-          (id_set (sets_gid valid) (to_host plan.gid_map attr.gid)) next else next) holds marks notes
+          (own_if is file (id_set (sets_uid valid) (to_host plan.uid_map attr.uid))
+          (id_set (sets_gid valid) (to_host plan.gid_map attr.gid)) next) holds marks notes
       at true = fit_owns file target next s _ _ forbidden f
       at false = f
 
   -- from the mode on
-  abbrev sets_all : Fd → Fd → Bool → RequestTree
-  sets_all file target through =
-      set_mode valid attr target through (
+  abbrev sets_all : Fd → Target → RequestTree
+  sets_all file target =
+      set_mode valid attr target (
       set_owner plan valid attr file (
       set_size plan seat valid attr target (
-      set_times valid attr target through (
+      set_times valid attr target (
       tell_attr plan inode))))
 
   -- a size is set in a scope, or in none
-  fit_size : {seen : List Seen} {holds : List Hold} {marks : List ℕ} {notes : Notes} (file target : Fd)
-      (next : RequestTree) → Sets holds file target → FitOn asks seen next holds marks notes →
+  fit_size : {seen : List Seen} {holds : List Hold} {marks : List ℕ} {notes : Notes} (file : Fd)
+      (target : Target) (next : RequestTree) → Sets holds file target.fd → FitOn asks seen next holds marks notes →
       FitOn asks seen (set_size plan seat valid attr target next) holds marks notes
   fit_size {seen = seen} {holds = holds} {marks = marks} {notes = notes} file target next s f = at (sets_size valid)
     where
@@ -122,27 +124,27 @@ module _ (plan : Plan) (seat : HostSeat) (who : Context) (inode : ℕ) (handle :
       dropped = drops_fsetid plan seat (kills_suidgid valid)
 
       at : (is : Bool) → FitOn asks seen
-          (if is then without_fsetid dropped (do_call (call.Truncate target attr.size) (Bares next)) else next)
+          (cut_if is dropped target.fd attr.size next)
           holds marks notes
       at true =
           fit_without_fsetid dropped _ (
-          fit_do_call (call.Truncate target attr.size) _
+          fit_do_call (call.Truncate target.fd attr.size) _
           (record { holds = λ told these. refl; notes = λ told these. refl })
-          ((subst (λ (all : List Hold). Knows all target) (sym (unscoped_over dropped holds)) s.targets, tt), tt)
+          ((subst (λ (all : List Hold). Knows all target.fd) (sym (unscoped_over dropped holds)) s.targets, tt), tt)
           (λ errno. refl)
           (fit_bares dropped next s.bare f))
       at false = f
 
-  fit_sets : {seen : List Seen} {holds : List Hold} {marks : List ℕ} {notes : Notes} (file target : Fd)
-      (through : Bool) → Sets holds file target →
-      FitOn asks seen (sets_all file target through) holds marks notes
-  fit_sets file target through s =
-      fit_do_if (sets_mode valid) (call.ChMod target through attr.mode) _
+  fit_sets : {seen : List Seen} {holds : List Hold} {marks : List ℕ} {notes : Notes} (file : Fd)
+      (target : Target) → Sets holds file target.fd →
+      FitOn asks seen (sets_all file target) holds marks notes
+  fit_sets file target s =
+      fit_do_if (sets_mode valid) (call.ChMod target.fd target.through attr.mode) _
       (record { holds = λ told these. refl; notes = λ told these. refl }) ((s.targets, tt), tt) (λ errno. refl)
-      (fit_owner file target _ s
+      (fit_owner file target.fd _ s
       (fit_size file target _ s
       (fit_do_if (sets_atime valid || sets_mtime valid)
-      (call.SetTimes target through (atime_set valid attr) (mtime_set valid attr)) _
+      (call.SetTimes target.fd target.through (atime_set valid attr) (mtime_set valid attr)) _
       (record { holds = λ told these. refl; notes = λ told these. refl }) ((s.targets, tt), tt) (λ errno. refl)
       (fit_tell s.bare))))
 
@@ -151,9 +153,10 @@ module _ (plan : Plan) (seat : HostSeat) (who : Context) (inode : ℕ) (handle :
       (given : Option ℕ) → opens_anew given valid ≡ true →
       FitOn asks seen (target_of inode given new (sets_all new)) (hold.Fd new ∷ hold.Pin row (Some dir) ∷ [])
       marks notes
+  unfolding target_of
   fit_opened row dir new (Some number) e = absurd (cc)
   fit_opened row dir new None e =
-      fit_sets new new true (record {
+      fit_sets new (target_as new true) (record {
         bare = λ one. refl;
         files = (hold.Fd new, _, here, refl);
         targets = (hold.Fd new, _, here, refl);
@@ -161,15 +164,16 @@ module _ (plan : Plan) (seat : HostSeat) (who : Context) (inode : ℕ) (handle :
 
   fit_filed : {seen : List Seen} {marks : List ℕ} {notes : Notes} (row : ℕ) (file : Fd) (given : Option ℕ) →
       FitOn asks seen (target_of inode given file (sets_all file)) (hold.Pin row (Some file) ∷ []) marks notes
+  unfolding target_of
   fit_filed row file (Some number) =
       fit_pin_handle number inode _ (λ one. refl) (λ other fd.
-      fit_sets file fd false (record {
+      fit_sets file (target_as fd false) (record {
         bare = λ one. refl;
         files = (hold.Pin row (Some file), _, there here, refl);
         targets = (hold.HandlePin other fd, _, here, refl);
       }))
   fit_filed row file None =
-      fit_sets file file true (record {
+      fit_sets file (target_as file true) (record {
         bare = λ one. refl;
         files = (hold.Pin row (Some file), _, here, refl);
         targets = (hold.Pin row (Some file), _, here, refl);
@@ -182,6 +186,7 @@ module _ (plan : Plan) (seat : HostSeat) (who : Context) (inode : ℕ) (handle :
   fit_row : {seen : List Seen} {marks : List ℕ} (notes : Notes) (row : Resolved) →
       GoesAfter (resolution inode row) asks seen (file_set handle valid row sets_file)
       (hold.Pin row.row (row_fd row.form) ∷ []) marks (noting inode row.row notes)
+  unfolding file_set
   fit_row {seen = seen} {marks = marks} notes row = at (opens_anew handle valid) refl
     where
       at : (anew : Bool) → opens_anew handle valid ≡ anew →
@@ -194,7 +199,12 @@ module _ (plan : Plan) (seat : HostSeat) (who : Context) (inode : ℕ) (handle :
       at false e =
           after_any_step (fit_file_of row.row row.form sets_file (λ file. fit_filed row.row file handle))
 
-  pub fit_setattr : FitOn asks [] (setattr plan seat inode handle valid attr) [] [] blank
+  fit_sized : {seen : List Seen} {holds : List Hold} {marks : List ℕ} {notes : Notes} (next : RequestTree) →
+      FitOn asks seen next holds marks notes → FitOn asks seen (sized valid attr next) holds marks notes
+  unfolding sized
+  fit_sized next f = fit_checked (is_missized valid attr) next (λ bad. inl (bad, refl)) f
+
+  pub fit_setattr : FitOn asks [] (begin (setattr plan seat inode handle valid attr)) [] [] blank
   fit_setattr = fit_begin _ refl (λ session.
-      fit_checked (is_missized valid attr) _ (λ bad. inl (bad, refl))
+      fit_sized _
       (fit_resolve inode _ nothing_bare (λ row. fit_row (record blank { era = Some session.era }) row)))

@@ -7,7 +7,7 @@ use Rattle.pt_frame.specs.Frame.{CutAfter}
 use Rattle.pt_frame.specs.Grammar.{Belongs}
 use Rattle.pt_frame.specs.declared.finish.Finish.{Finish}
 use Rattle.pt_req.specs.declared.plan.Plan.{Plan}
-use Rattle.pt_attr.specs.Pattern.{Asked, grammar_for}
+use Rattle.pt_job.specs.Pattern.{Asked, grammar_for}
 use Rattle.pt_law.specs.World.{Turn, steps_of}
 
 -- by these steps a job that began with this seat comes to this end: it does all that was asked, or is cut after some

@@ -13,7 +13,7 @@ use Rattle.pt_iface.specs.declared.request.Request.TheVariants as request
 use Rattle.pt_req.specs.Asker.{group_of}
 use Rattle.pt_req.specs.Capability.{fsetid, drops_fsetid}
 use Rattle.pt_req.specs.declared.plan.Plan.{Plan}
-use Rattle.pt_attr.specs.Pattern.{Asked, Requests, Edits}
+use Rattle.pt_job.specs.Pattern.{Asked, Requests, Edits}
 use Rattle.pt_attr.specs.Setting.{kills_suidgid}
 use Rattle.pt_law.specs.Under.{Identity, Role}
 

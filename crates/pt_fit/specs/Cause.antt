@@ -48,8 +48,7 @@ use Rattle.pt_req.specs.declared.plan.Plan.{Plan}
 use Rattle.pt_attr.specs.Access.{is_granted}
 use Rattle.pt_attr.specs.Making.{is_nul}
 use Rattle.pt_attr.specs.Setting.{is_missized, opens_anew, sets_gid, sets_uid}
-use Rattle.pt_attr.specs.Pattern.{IsServed}
-use Rattle.pt_attr.specs.Pattern.{Asked, Requests, Edits}
+use Rattle.pt_job.specs.Pattern.{Asked, Requests, Edits}
 
 -- a request, who asks it, and the plan by which it is served
 pub record Asking : Type 0 where
@@ -220,8 +219,13 @@ OwnCause plan who (request.Rename olddir oldname newdir newname flags) cause =
     ((is_bad_name oldname ≡ true) ⊎ (is_bad_name newname ≡ true)) × (cause ≡ einval)
 OwnCause plan who (request.SetAttr inode handle valid attr) cause =
     ((is_missized valid attr ≡ true) × (cause ≡ einval)) ⊎ (IsForbiddenOwner plan valid attr × (cause ≡ eperm))
+OwnCause plan who (request.ReadDir inode handle size offset) cause = cause ≡ errno_of 38
+OwnCause plan who (request.SetXattr inode name value flags extra) cause = cause ≡ errno_of 38
+OwnCause plan who (request.GetXattr inode name size) cause = cause ≡ errno_of 38
+OwnCause plan who (request.ListXattr inode size) cause = cause ≡ errno_of 38
+OwnCause plan who (request.RemoveXattr inode name) cause = cause ≡ errno_of 38
 OwnCause plan who (request.Other opcode) cause = cause ≡ errno_of 38
-OwnCause plan who asked cause = (IsServed asked → ⊥) × (cause ≡ errno_of 38)
+OwnCause plan who asked cause = ⊥
 
 abbrev pub HasCause : Asking → List Step → Errno → Type 0
 HasCause asked steps cause =

@@ -8,7 +8,7 @@ use Rattle.pt_iface.specs.declared.request.Request.TheVariants as request
 use Rattle.pt_frame.specs.Deed.{Changes, Step}
 use Rattle.pt_frame.specs.declared.act.ActReply.TheVariants.{Event}
 use Rattle.pt_req.specs.declared.plan.Plan.{Plan}
-use Rattle.pt_attr.specs.Pattern.{Asked, Requests}
+use Rattle.pt_job.specs.Pattern.{Asked, Requests}
 use Rattle.pt_law.specs.World.{Turn, World, steps_of, fd_of}
 use Rattle.pt_law.specs.Giving.{GivingPlaces, GivingPath, IsGiven}
 use Rattle.pt_law.specs.Naming.{made}

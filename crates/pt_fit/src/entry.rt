@@ -21,7 +21,7 @@ ghost use Rattle.pt_req.specs.Parts.{look_up};
 ghost use Rattle.pt_req.specs.declared.begun.BegunSession.{BegunSession};
 ghost use Rattle.pt_req.specs.declared.parts.looked.Looked.{Looked};
 ghost use Rattle.pt_req.specs.declared.plan.Plan.{Plan};
-ghost use Rattle.pt_attr.specs.Pattern.{Asked, grammar_for, grammar_of};
+ghost use Rattle.pt_job.specs.Pattern.{Asked, grammar_for, grammar_of};
 ghost use Rattle.pt_law.specs.World.{World, Turn, steps_of};
 ghost use Rattle.pt_law.specs.Laws.{Starts};
 ghost use Rattle.pt_law.specs.Discipline.{AreDisciplined};

@@ -3,7 +3,7 @@ ghost use Rattle.pt_host.specs.declared.seat.HostSeat.{HostSeat};
 ghost use Rattle.pt_session.specs.Tables.{Tables};
 ghost use Rattle.pt_frame.specs.declared.finish.Finish.{Finish};
 ghost use Rattle.pt_req.specs.declared.plan.Plan.{Plan};
-ghost use Rattle.pt_attr.specs.Pattern.{Asked};
+ghost use Rattle.pt_job.specs.Pattern.{Asked};
 ghost use Rattle.pt_law.specs.World.{World, Turn, Runs, HostRuns};
 ghost use Rattle.pt_law.specs.Discipline.{AreEnded};
 ghost use Rattle.pt_fit.specs.Answered.{AreAnswered};

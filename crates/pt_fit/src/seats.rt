@@ -7,7 +7,7 @@ ghost use Rattle.pt_frame.specs.Grammar.{Belongs};
 ghost use Rattle.pt_frame.specs.Past.{past_of};
 ghost use Rattle.pt_frame.specs.declared.finish.Finish.{Finish};
 ghost use Rattle.pt_req.specs.declared.plan.Plan.{Plan};
-ghost use Rattle.pt_attr.specs.Pattern.{Asked, grammar_for};
+ghost use Rattle.pt_job.specs.Pattern.{Asked, grammar_for};
 ghost use Rattle.pt_law.specs.Told.{AllMayBeTold};
 ghost use Rattle.pt_law.specs.Under.{IsSeated, AllSeatsAnswer};
 ghost use Rattle.pt_fit.specs.Asker.{role_for};

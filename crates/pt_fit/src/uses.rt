@@ -10,7 +10,7 @@ ghost use Rattle.pt_frame.specs.Grammar.{Belongs};
 ghost use Rattle.pt_frame.specs.declared.finish.Finish.{Finish};
 ghost use Rattle.pt_frame.specs.declared.finish.Finish.TheVariants as finish;
 ghost use Rattle.pt_req.specs.declared.plan.Plan.{Plan};
-ghost use Rattle.pt_attr.specs.Pattern.{grammar_of};
+ghost use Rattle.pt_job.specs.Pattern.{grammar_of};
 ghost use Rattle.pt_law.specs.Branch.{IsGivenUp};
 ghost use Rattle.pt_law.specs.World.{Turn, TablesRun, steps_of};
 ghost use Rattle.pt_law.specs.Ledger.{inserted};

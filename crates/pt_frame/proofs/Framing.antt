@@ -18,28 +18,22 @@ use Rattle.pt_frame.specs.Frame.{outer, cut, close_first}
 use Rattle.pt_frame.specs.Past.{or_first}
 use Rattle.pt_frame.specs.Tree.{RequestTree, Asks, Opens, Gives, Refuses, Bares, Brackets, Shuts, Allocates, framed}
 use Rattle.pt_frame.specs.Tree.{allocates, or_gives_up}
-use Rattle.pt_frame.specs.Machine.Next.{IsAsks, AsksFor, IsNext, asked, deed_in, with_memory, then_tree}
-use Rattle.pt_frame.specs.Machine.Next.{bares_if, shuts_if, brackets_if}
-use Rattle.pt_frame.specs.Machine.Room.{act_brings, brings, deed_brings}
-use Rattle.pt_frame.specs.Machine.Left.{held_by, tops, bared, ended, marked, edges_left, mode_left, left_of}
-use Rattle.pt_frame.specs.Machine.Left.{then_left}
-use Rattle.pt_frame.specs.Machine.Left.{next_left, given_left, tail_left, passes_at, edges_pass, is_edge_ready}
-use Rattle.pt_frame.specs.Machine.Left.{is_above}
+use Rattle.pt_frame.specs.Machine.Brings.{act_brings, act_may, brings_of, deed_brings, holds_in}
+use Rattle.pt_frame.specs.Machine.Walk.{IsAsks, AsksFor, asked, asking, deed_in, elsewhere, told_on, walk}
+use Rattle.pt_frame.specs.Machine.Left.{held_by, tops, bares_left, shuts_left, mode_left, left_of}
+use Rattle.pt_frame.specs.Machine.Left.{given_left, passes_at, is_above}
 use Rattle.pt_frame.specs.Machine.Left.{is_ready, is_over, is_all_over, is_giving_scope, is_restoring_now, IsTold}
 use Rattle.pt_frame.specs.Machine.Left.{NoneUnless, Tells, end_of}
 use Rattle.pt_frame.specs.declared.act.Act.{Act}
 use Rattle.pt_frame.specs.declared.act.Want.TheVariants as want
 use Rattle.pt_frame.specs.declared.act.ActReply.{ActReply}
+use Rattle.pt_frame.specs.declared.act.ActReply.TheVariants as told
 use Rattle.pt_frame.specs.declared.finish.Finish.{Finish}
 use Rattle.pt_frame.specs.declared.finish.Finish.TheVariants as finish
 use Rattle.pt_frame.specs.declared.hold.Hold.{Hold}
 use Rattle.pt_frame.specs.declared.hold.Taken.{Taken}
 use Rattle.pt_frame.specs.declared.hold.Taken.TheVariants as taken
-use Rattle.pt_frame.specs.declared.machine.body.Then.{Then}
-use Rattle.pt_frame.specs.declared.machine.body.Then.TheVariants as then
-use Rattle.pt_frame.specs.declared.machine.body.Shut.{Shut}
-use Rattle.pt_frame.specs.declared.machine.body.Next.{Next}
-use Rattle.pt_frame.specs.declared.machine.body.Next.TheVariants as next
+use Rattle.pt_frame.specs.declared.told.Heard.TheVariants as heard
 use Rattle.pt_frame.specs.declared.machine.mode.Mode.{Mode}
 use Rattle.pt_frame.specs.declared.machine.mode.Mode.TheVariants as mode
 
@@ -58,12 +52,6 @@ shut_done seat false mark (one ∷ holds) next e = rw e refl
 shut_done seat true mark [] next e = refl
 shut_done seat true mark (top ∷ []) next e = refl
 shut_done seat true mark (top ∷ one ∷ holds) next e = rw e refl
-
-pub ended_done : (seat : HostSeat) (shut : Shut) (holds : List Hold) (marks : List ℕ)
-    (next : List Hold → List ℕ → Grammar) → is_above (Some shut) holds marks ≡ false →
-    ended seat (Some shut) holds marks next ≡ next holds (outer marks)
-ended_done seat shut holds marks next e =
-    shut_done seat shut.passes (mark_in marks) holds (λ left. next left (outer marks)) e
 
 -- where no scope lies on top there is none to end
 pub bare_done : (seat : HostSeat) (holds : List Hold) (next : List Hold → Grammar) → tops holds ≡ false →
@@ -120,23 +108,6 @@ bare_back seat one rest next told e =
     bare_by : Bool → Grammar
     bare_by b = bare_one seat b one rest (bare seat rest next) next
 
-edge_back : (seat : HostSeat) (bares : Bool) (shuts : Option Shut) (one : Hold) (holds new : List Hold)
-    (marks : List ℕ) (more : List Hold → List ℕ → Grammar) (told : ActReply) →
-    is_edge_ready bares shuts holds marks ≡ true →
-    behind (edges_pass bares shuts) holds ≡ one ∷ behind (edges_pass bares shuts) new →
-    front (edges_pass bares shuts) new ≡ front (edges_pass bares shuts) holds →
-    after told (bared seat bares holds (λ left. ended seat shuts left marks more))
-    ≡ closings (closings_in (giving seat one) told) new
-    (or_lost seat (fault_if (is_scope one) told) new
-    (bared seat bares new (λ left. ended seat shuts left marks more)))
-edge_back seat true shuts one holds new marks more told ready b f =
-    let top : is_scope one ≡ true = subst (λ (x : List Hold). tops x ≡ true) b ready in
-    ap (λ (x : List Hold). after told (bare seat x (λ left. ended seat shuts left marks more))) b
-    ∙ bare_back seat one new (λ left. ended seat shuts left marks more) told top
-edge_back seat false None one holds new marks more told ready b f = absurd (cc)
-edge_back seat false (Some it) one holds new marks more told ready b f =
-    shut_new seat it.passes (mark_in marks) one holds new (λ left. more left (outer marks)) told ready b f
-
 -- after a hold was given back there is left what its mode says
 pub given_back : (seat : HostSeat) (at : Mode) (tree : RequestTree) (one : Hold) (holds new : List Hold)
     (marks : List ℕ)
@@ -147,9 +118,12 @@ pub given_back : (seat : HostSeat) (at : Mode) (tree : RequestTree) (one : Hold)
     ≡ closings (closings_in (giving seat one) told) new
     (given_left seat at (fault_if (is_scope one) told) tree new marks)
 given_back seat mode.Body tree one holds new marks told other over ready b f = absurd (other refl)
-given_back seat (mode.Edge edges more) tree one holds new marks told other over ready b f =
-    edge_back seat edges.bares edges.shuts one holds new marks
-    (λ kept above. tail_left seat more tree kept (marked edges.brackets kept above)) told ready b f
+given_back seat mode.Bares tree one holds new marks told other over ready b f =
+    let top : is_scope one ≡ true = subst (λ (x : List Hold). tops x ≡ true) b ready in
+    ap (λ (x : List Hold). after told (bare seat x (bares_left seat tree marks))) b
+    ∙ bare_back seat one new (bares_left seat tree marks) told top
+given_back seat (mode.Shuts passes) tree one holds new marks told other over ready b f =
+    shut_new seat passes (mark_in marks) one holds new (shuts_left seat tree marks) told ready b f
 given_back seat (mode.Out last) tree one holds new marks told other over ready b f =
     shut_new seat true 0 one holds new (λ left. End (finish.Answer last)) told
     (subst (λ (x : List Hold). nat_lt 0 (length x) ≡ true) (sym b)
@@ -176,99 +150,77 @@ given_step seat at tree one holds new marks told passes scope wanted fault count
     ∙ ap (λ (x : Option Errno). closings count new (given_left seat at x tree new marks)) (sym l')
     ∙ ap (closings count new) (sym is)
 
--- scopes and brackets are those of the tree
-edges_same : (seat : HostSeat) (bares : Bool) (shuts : Option Shut) (brackets : Bool) (tree : RequestTree)
-    (holds : List Hold) (marks : List ℕ) →
-    bared seat bares holds (λ left. ended seat shuts left marks (λ kept above.
-    framed seat tree kept (marked brackets kept above)))
-    ≡ framed seat (bares_if bares (shuts_if shuts (brackets_if brackets tree))) holds marks
-edges_same seat true None true tree holds marks = refl
-edges_same seat true None false tree holds marks = refl
-edges_same seat true (Some it) true tree holds marks = refl
-edges_same seat true (Some it) false tree holds marks = refl
-edges_same seat false None true tree holds marks = refl
-edges_same seat false None false tree holds marks = refl
-edges_same seat false (Some it) true tree holds marks = refl
-edges_same seat false (Some it) false tree holds marks = refl
-
-then_same : (seat : HostSeat) (what : Then) (told : ActReply) (left : RequestTree) →
-    then_left seat what (refusal told) left ≡ framed seat (then_tree what told left)
-then_same seat then.Goes told left = refl
-then_same seat (then.Gives last) told left = refl
-then_same seat then.Refuses told left = refl
-
-memory_same : (seat : HostSeat) (tree : RequestTree) (holds : List Hold) (marks : List ℕ) →
-    framed seat (with_memory tree) holds marks ≡ framed seat tree holds marks
-memory_same seat (Gives last) holds marks = refl
-memory_same seat (Refuses told) holds marks = refl
-memory_same seat (Asks deed more) holds marks = refl
-memory_same seat (Opens call scope more) holds marks = refl
-memory_same seat (Bares rest) holds marks = refl
-memory_same seat (Brackets rest) holds marks = refl
-memory_same seat (Shuts passes rest) holds marks = refl
-memory_same seat (Allocates rest) holds marks = refl
-
--- what follows a reply is one side, or there is no other
-rest_chosen : (wants : Bool) (up rest chosen : Grammar) → chosen ≡ rest → IsChosen (or_gives_up wants up rest) chosen
-rest_chosen true up rest chosen e = inr (inl e)
-rest_chosen false up rest chosen e = inl e
-
-up_chosen : (wants : Bool) (up rest chosen : Grammar) → wants ≡ true → chosen ≡ up →
-    IsChosen (or_gives_up wants up rest) chosen
-up_chosen true up rest chosen w e = inr (inr e)
-up_chosen false up rest chosen w e = absurd (cc)
-
--- the body says what follows, or gives up
-follows_so : (seat : HostSeat) (tree left : RequestTree) (told : ActReply) (what : Next) (count : ℕ)
-    (holds : List Hold) (marks : List ℕ) (rest : Grammar) → IsNext tree told what left →
-    rest ≡ next_left seat what (refusal told) left holds marks →
-    IsChosen (or_gives_up (allocates tree)
+-- what follows a reply that takes no memory to go on with
+told_follows : (seat : HostSeat) (count : ℕ) (holds : List Hold) (marks : List ℕ) (next : RequestTree) (told : ActReply)
+    (rest : Grammar) → allocates next ≡ false → rest ≡ framed seat next holds marks →
+    IsChosen (or_gives_up (allocates next)
     (closings count holds (leave seat holds (finish.Answer answer.NoMemory)))
-    (closings count holds (framed seat tree holds marks))) (closings count holds rest)
-follows_so seat tree left told (next.At what) count holds marks rest is e =
-    rest_chosen (allocates tree) _ _ _ (ap (closings count holds)
-    (e ∙ ap (λ (f : List Hold → List ℕ → Grammar). f holds marks) (then_same seat what told left)
-    ∙ ap (λ (t : RequestTree). framed seat t holds marks) (sym is) ∙ memory_same seat tree holds marks))
-follows_so seat tree left told (next.Over edges what) count holds marks rest is e =
-    rest_chosen (allocates tree) _ _ _ (ap (closings count holds)
-    (e ∙ ap (λ (f : List Hold → List ℕ → Grammar). edges_left seat edges f holds marks)
-    (then_same seat what told left)
-    ∙ edges_same seat edges.bares edges.shuts edges.brackets (then_tree what told left) holds marks
-    ∙ ap (λ (t : RequestTree). framed seat t holds marks) (sym is) ∙ memory_same seat tree holds marks))
-follows_so seat tree left told next.NoMemory count holds marks rest is e =
-    up_chosen (allocates tree) _ _ _ is (ap (closings count holds) e)
+    (closings count holds (framed seat next holds marks))) (closings count holds rest)
+told_follows seat count holds marks next told rest e is = rw e (inl (ap (closings count holds) is))
 
--- a step of the body
-pub body_went : (seat : HostSeat) (tree left : RequestTree) (wanted : Act) (opens : Option Hold) (told : ActReply)
-    (refused : Answer) (what : Next) (holds new : List Hold) (marks : List ℕ) (count : ℕ) (rest : Grammar) →
-    AsksFor tree wanted opens → refused ≡ refusal told → IsNext (asked tree told) told what left →
-    new ≡ held_by (deed_of wanted) opens told holds → count ≡ closings_in (deed_of wanted) told →
-    rest ≡ next_left seat what refused left new marks →
+-- a step of the body, and what is left behind it
+pub body_went : (seat : HostSeat) (tree : RequestTree) (wanted : Act) (opens : Option Hold) (told : ActReply)
+    (holds new : List Hold) (marks : List ℕ) (count : ℕ) (rest : Grammar) → AsksFor tree wanted opens →
+    allocates (asked tree told) ≡ false → new ≡ held_by (deed_of wanted) opens told holds →
+    count ≡ closings_in (deed_of wanted) told → rest ≡ framed seat (asked tree told) new marks →
     IsChosen (after told (framed seat tree holds marks)) (closings count new rest)
-body_went seat (Asks deed more) left wanted None told refused what holds new marks count rest asks r is h n l =
+body_went seat (Asks deed more) wanted None told holds new marks count rest asks gives h n l =
     let h' : new ≡ held deed told holds = h ∙ ap (λ (d : Deed). held d told holds) asks in
     let n' : count ≡ closings_in deed told = n ∙ ap (λ (d : Deed). closings_in d told) asks in
-    let l' : rest ≡ next_left seat what (refusal told) left new marks =
-    l ∙ ap (λ (x : Answer). next_left seat what x left new marks) r in
     subst (λ (k : ℕ). IsChosen (after told (framed seat (Asks deed more) holds marks)) (closings k new rest)) (sym n')
-    (subst (λ (x : List Hold). rest ≡ next_left seat what (refusal told) left x marks →
+    (subst (λ (x : List Hold). rest ≡ framed seat (more told) x marks →
     IsChosen (after told (framed seat (Asks deed more) holds marks)) (closings (closings_in deed told) x rest))
     (sym h')
-    (λ e. follows_so seat (more told) left told what (closings_in deed told) (held deed told holds) marks rest is e)
-    l')
-body_went seat (Opens call scope more) left wanted
-    (Some laid) told refused what holds new marks count rest asks r is h n
-    l =
+    (λ e. told_follows seat (closings_in deed told) (held deed told holds) marks (more told) told rest gives e) l)
+body_went seat (Opens call scope more) wanted (Some laid) told holds new marks count rest asks gives h n l =
     let h' : new ≡ opened scope told holds = h ∙ ap (λ (x : Hold). opened x told holds) asks.1 in
     let n' : count ≡ 0 = n ∙ ap (λ (d : Deed). closings_in d told) asks.0 in
-    let l' : rest ≡ next_left seat what (refusal told) left new marks =
-    l ∙ ap (λ (x : Answer). next_left seat what x left new marks) r in
     subst (λ (k : ℕ). IsChosen (after told (framed seat (Opens call scope more) holds marks)) (closings k new rest))
     (sym n')
-    (subst (λ (x : List Hold). rest ≡ next_left seat what (refusal told) left x marks →
+    (subst (λ (x : List Hold). rest ≡ framed seat (more told) x marks →
     IsChosen (after told (framed seat (Opens call scope more) holds marks)) (closings 0 x rest)) (sym h')
-    (λ e. follows_so seat (more told) left told what 0 (opened scope told holds) marks rest is e) l')
-body_went seat tree left wanted opens told refused what holds new marks count rest asks r is h n l = absurd asks
+    (λ e. told_follows seat 0 (opened scope told holds) marks (more told) told rest gives e) l)
+body_went seat tree wanted opens told holds new marks count rest asks gives h n l = absurd asks
+
+-- one that asks nothing by this plan is refused
+pub elsewhere_went : (seat : HostSeat) (reply : ActReply) (holds : List Hold) (marks : List ℕ) →
+    IsChosen (after reply (framed seat elsewhere holds marks)) (leave seat holds (finish.Answer (refusal reply)))
+elsewhere_went seat (told.Event reply) holds marks = inl refl
+elsewhere_went seat (told.Host reply) holds marks = inl refl
+elsewhere_went seat told.NoCopy holds marks = inl refl
+
+pub elsewhere_told : (seat : HostSeat) (reply : ActReply) (holds : List Hold) (marks : List ℕ) →
+    (told_closings (framed seat elsewhere holds marks) reply ≡ 0)
+    × (told_inserted (framed seat elsewhere holds marks) reply ≡ 0)
+elsewhere_told seat (told.Event reply) holds marks = (refl, refl)
+elsewhere_told seat (told.Host reply) holds marks = (refl, refl)
+elsewhere_told seat told.NoCopy holds marks = (refl, refl)
+
+pub asks_asking : (tree : RequestTree) → IsAsks tree → asking tree ≡ tree
+asks_asking (Asks deed more) asks = refl
+asks_asking (Opens call scope more) asks = refl
+asks_asking tree asks = absurd asks
+
+-- a request that was told nothing
+pub starts : (seat : HostSeat) (tree : RequestTree) → IsAsks tree →
+    framed seat (asking (walk tree [])) [] [] ≡ framed seat tree [] []
+unfolding walk
+starts seat tree asks = ap (λ (t : RequestTree). framed seat t [] []) (asks_asking tree asks)
+
+pub asking_asks : (tree : RequestTree) → IsAsks (asking tree)
+asking_asks (Asks deed more) = tt
+asking_asks (Opens call scope more) = tt
+asking_asks (Gives last) = tt
+asking_asks (Refuses reply) = tt
+asking_asks (Bares rest) = tt
+asking_asks (Brackets rest) = tt
+asking_asks (Shuts passes rest) = tt
+asking_asks (Allocates rest) = tt
+
+pub for_asks : (tree : RequestTree) (wanted : Act) (opens : Option Hold) → AsksFor tree wanted opens → IsAsks tree
+for_asks (Asks deed more) wanted opens asks = tt
+for_asks (Opens call scope more) wanted opens asks = tt
+for_asks tree wanted opens asks = absurd asks
 
 pub asks_closings : (seat : HostSeat) (tree : RequestTree) (wanted : Act) (opens : Option Hold) (told : ActReply)
     (holds : List Hold) (marks : List ℕ) → AsksFor tree wanted opens →
@@ -277,19 +229,6 @@ asks_closings seat (Asks deed more) wanted None told holds marks asks = ap (λ (
 asks_closings seat (Opens call scope more) wanted (Some laid) told holds marks asks =
     ap (λ (d : Deed). closings_in d told) asks.0
 asks_closings seat tree wanted opens told holds marks asks = absurd asks
-
-pub asks_inserted : (seat : HostSeat) (tree : RequestTree) (wanted : Act) (opens : Option Hold) (told : ActReply)
-    (holds : List Hold) (marks : List ℕ) → AsksFor tree wanted opens →
-    inserted_by (deed_in tree) told ≡ told_inserted (framed seat tree holds marks) told
-asks_inserted seat (Asks deed more) wanted None told holds marks asks = refl
-asks_inserted seat (Opens call scope more) wanted (Some laid) told holds marks asks = refl
-asks_inserted seat tree wanted opens told holds marks asks = absurd asks
-
-pub asks_brings : (tree : RequestTree) (wanted : Act) (opens : Option Hold) → AsksFor tree wanted opens →
-    act_brings (deed_of wanted) opens ≡ brings tree
-asks_brings (Asks deed more) wanted None asks = ap deed_brings asks
-asks_brings (Opens call scope more) wanted (Some laid) asks = refl
-asks_brings tree wanted opens asks = absurd asks
 
 -- one of the holds is to be given back, the first of those below
 pub record GivesOne (seat : HostSeat) (grammar : Grammar) (holds below : List Hold) : Type 0 where
@@ -325,26 +264,17 @@ shut_gives seat passing mark holds (one ∷ rest) next e w = record {
       (or_lost seat (fault_if (is_scope one) told) (under passing rest) (shut seat passing mark rest next)))) w);
 }
 
-edge_gives : (seat : HostSeat) (bares : Bool) (shuts : Option Shut) (holds : List Hold) (marks : List ℕ)
-    (more : List Hold → List ℕ → Grammar) → is_edge_ready bares shuts holds marks ≡ true →
-    GivesOne seat (bared seat bares holds (λ left. ended seat shuts left marks more)) holds
-    (behind (edges_pass bares shuts) holds)
-edge_gives seat true shuts [] marks more ready = absurd (cc)
-edge_gives seat true shuts (one ∷ rest) marks more ready =
-    bare_gives seat one rest (λ left. ended seat shuts left marks more) ready
-edge_gives seat false None holds marks more ready = absurd (cc)
-edge_gives seat false (Some it) holds marks more ready =
-    shut_gives seat (front it.passes holds) (mark_in marks) holds (behind it.passes holds)
-    (λ left. more left (outer marks)) ready (whole it.passes holds)
-
 -- what gives back gives one back, or is over
 pub gives : (seat : HostSeat) (at : Mode) (tree : RequestTree) (holds : List Hold) (marks : List ℕ) → at ≢ mode.Body →
     is_ready at holds marks ≡ true → is_over at holds ≡ false →
     GivesOne seat (mode_left seat at tree holds marks) holds (behind (passes_at at) holds)
 gives seat mode.Body tree holds marks other ready over = absurd (other refl)
-gives seat (mode.Edge edges more) tree holds marks other ready over =
-    edge_gives seat edges.bares edges.shuts holds marks
-    (λ kept above. tail_left seat more tree kept (marked edges.brackets kept above)) ready
+gives seat mode.Bares tree [] marks other ready over = absurd (cc)
+gives seat mode.Bares tree (one ∷ rest) marks other ready over =
+    bare_gives seat one rest (bares_left seat tree marks) ready
+gives seat (mode.Shuts passes) tree holds marks other ready over =
+    shut_gives seat (front passes holds) (mark_in marks) holds (behind passes holds) (shuts_left seat tree marks) ready
+    (whole passes holds)
 gives seat (mode.Out last) tree [] marks other ready over = absurd (cc)
 gives seat (mode.Out last) tree (top ∷ []) marks other ready over = absurd (cc)
 gives seat (mode.Out last) tree (top ∷ one ∷ rest) marks other ready over =
@@ -365,7 +295,8 @@ pub over_left : (seat : HostSeat) (at : Mode) (tree : RequestTree) (holds : List
     is_ready at holds marks ≡ true → is_over at holds ≡ true →
     (mode_left seat at tree holds marks ≡ End (end_of at)) × (behind (passes_at at) holds ≡ [])
 over_left seat mode.Body tree holds marks ready over = absurd (cc)
-over_left seat (mode.Edge edges more) tree holds marks ready over = absurd (cc)
+over_left seat mode.Bares tree holds marks ready over = absurd (cc)
+over_left seat (mode.Shuts passes) tree holds marks ready over = absurd (cc)
 over_left seat (mode.Out last) tree [] marks ready over = absurd (cc)
 over_left seat (mode.Out last) tree (top ∷ []) marks ready over = (refl, refl)
 over_left seat (mode.Out last) tree (top ∷ one ∷ rest) marks ready over = absurd (cc)
@@ -392,7 +323,8 @@ asks_stands seat tree holds marks asks = absurd asks
 giving_scope : (at : Mode) (holds : List Hold) → at ≢ mode.Body →
     is_giving_scope at holds ≡ tops (behind (passes_at at) holds)
 giving_scope mode.Body holds other = absurd (other refl)
-giving_scope (mode.Edge edges more) holds other = refl
+giving_scope mode.Bares holds other = refl
+giving_scope (mode.Shuts passes) holds other = refl
 giving_scope (mode.Out last) holds other = refl
 giving_scope (mode.Leave last) holds other = refl
 
@@ -432,13 +364,16 @@ other_stands seat at tree holds marks other ready false e =
     (gives seat at tree holds marks other ready e)
 
 pub mode_stands : (seat : HostSeat) (at : Mode) (tree : RequestTree) (holds : List Hold) (marks : List ℕ) →
-    IsAsks tree → is_ready at holds marks ≡ true → Stands seat at (mode_left seat at tree holds marks) holds
-mode_stands seat mode.Body tree holds marks asks ready = asks_stands seat tree holds marks asks
-mode_stands seat (mode.Edge edges more) tree holds marks asks ready =
-    other_stands seat (mode.Edge edges more) tree holds marks (λ e. absurd (cc)) ready false refl
-mode_stands seat (mode.Out last) tree holds marks asks ready =
+    is_ready at holds marks ≡ true → Stands seat at (mode_left seat at tree holds marks) holds
+mode_stands seat mode.Body tree holds marks ready =
+    asks_stands seat (asking tree) holds marks (asking_asks tree)
+mode_stands seat mode.Bares tree holds marks ready =
+    other_stands seat mode.Bares tree holds marks (λ e. absurd (cc)) ready false refl
+mode_stands seat (mode.Shuts passes) tree holds marks ready =
+    other_stands seat (mode.Shuts passes) tree holds marks (λ e. absurd (cc)) ready false refl
+mode_stands seat (mode.Out last) tree holds marks ready =
     other_stands seat (mode.Out last) tree holds marks (λ e. absurd (cc)) ready (is_over (mode.Out last) holds) refl
-mode_stands seat (mode.Leave last) tree holds marks asks ready =
+mode_stands seat (mode.Leave last) tree holds marks ready =
     other_stands seat (mode.Leave last) tree holds marks (λ e. absurd (cc)) ready
     (is_over (mode.Leave last) holds) refl
 
@@ -467,48 +402,49 @@ restoring_now taken.Nothing zero at holds b c = refl
 
 -- a job has ended just where its fields say so
 pub end_over : (seat : HostSeat) (brings : Taken) (count : ℕ) (at : Mode) (tree : RequestTree) (holds : List Hold)
-    (marks : List ℕ) → IsAsks tree → is_ready at holds marks ≡ true →
+    (marks : List ℕ) → is_ready at holds marks ≡ true →
     is_end (left_of seat brings count at tree holds marks) ≡ is_all_over brings count at holds
-end_over seat (taken.Fd fd slot) count at tree holds marks asks ready = refl
-end_over seat taken.Slot count at tree holds marks asks ready = refl
-end_over seat taken.Nothing (suc count) at tree holds marks asks ready = refl
-end_over seat taken.Nothing zero at tree holds marks asks ready =
-    (mode_stands seat at tree holds marks asks ready).over
+end_over seat (taken.Fd fd slot) count at tree holds marks ready = refl
+end_over seat taken.Slot count at tree holds marks ready = refl
+end_over seat taken.Nothing (suc count) at tree holds marks ready = refl
+end_over seat taken.Nothing zero at tree holds marks ready =
+    (mode_stands seat at tree holds marks ready).over
 
 -- a step is to be made of one that has not
 pub stood : (seat : HostSeat) (brings : Taken) (count : ℕ) (at : Mode) (tree : RequestTree) (holds : List Hold)
-    (marks : List ℕ) → IsAsks tree → is_ready at holds marks ≡ true → is_all_over brings count at holds ≡ false →
+    (marks : List ℕ) → is_ready at holds marks ≡ true → is_all_over brings count at holds ≡ false →
     IsDo (left_of seat brings count at tree holds marks)
-stood seat (taken.Fd fd slot) count at tree holds marks asks ready e = tt
-stood seat taken.Slot count at tree holds marks asks ready e = tt
-stood seat taken.Nothing (suc count) at tree holds marks asks ready e = tt
-stood seat taken.Nothing zero at tree holds marks asks ready e =
-    (mode_stands seat at tree holds marks asks ready).going e
+stood seat (taken.Fd fd slot) count at tree holds marks ready e = tt
+stood seat taken.Slot count at tree holds marks ready e = tt
+stood seat taken.Nothing (suc count) at tree holds marks ready e = tt
+stood seat taken.Nothing zero at tree holds marks ready e =
+    (mode_stands seat at tree holds marks ready).going e
 
 -- no choice is open between two steps
 pub settles : (seat : HostSeat) (brings : Taken) (count : ℕ) (at : Mode) (tree : RequestTree) (holds : List Hold)
-    (marks : List ℕ) → IsAsks tree → is_ready at holds marks ≡ true →
+    (marks : List ℕ) → is_ready at holds marks ≡ true →
     IsSettled (left_of seat brings count at tree holds marks)
-settles seat (taken.Fd fd slot) count at tree holds marks asks ready = tt
-settles seat taken.Slot count at tree holds marks asks ready = tt
-settles seat taken.Nothing (suc count) at tree holds marks asks ready = tt
-settles seat taken.Nothing zero at tree holds marks asks ready =
-    (mode_stands seat at tree holds marks asks ready).settled
+settles seat (taken.Fd fd slot) count at tree holds marks ready = tt
+settles seat taken.Slot count at tree holds marks ready = tt
+settles seat taken.Nothing (suc count) at tree holds marks ready = tt
+settles seat taken.Nothing zero at tree holds marks ready =
+    (mode_stands seat at tree holds marks ready).settled
 
 -- a step restores the seat just where the fields say so
 pub restores_so : (seat : HostSeat) (brings : Taken) (count : ℕ) (at : Mode) (tree : RequestTree) (holds : List Hold)
-    (marks : List ℕ) → IsAsks tree → is_ready at holds marks ≡ true →
+    (marks : List ℕ) → is_ready at holds marks ≡ true →
     restores (left_of seat brings count at tree holds marks) ≡ is_restoring_now brings count at holds
-restores_so seat (taken.Fd fd slot) count at tree holds marks asks ready = refl
-restores_so seat taken.Slot count at tree holds marks asks ready = refl
-restores_so seat taken.Nothing (suc count) at tree holds marks asks ready = refl
-restores_so seat taken.Nothing zero at tree holds marks asks ready =
-    (mode_stands seat at tree holds marks asks ready).restoring
+restores_so seat (taken.Fd fd slot) count at tree holds marks ready = refl
+restores_so seat taken.Slot count at tree holds marks ready = refl
+restores_so seat taken.Nothing (suc count) at tree holds marks ready = refl
+restores_so seat taken.Nothing zero at tree holds marks ready =
+    (mode_stands seat at tree holds marks ready).restoring
 
 -- and then it has not ended
 over_rests : (at : Mode) (holds : List Hold) → is_over at holds ≡ true → is_giving_scope at holds ≡ false
 over_rests mode.Body holds e = refl
-over_rests (mode.Edge edges more) holds e = absurd (cc)
+over_rests mode.Bares holds e = absurd (cc)
+over_rests (mode.Shuts passes) holds e = absurd (cc)
 over_rests (mode.Out last) [] e = refl
 over_rests (mode.Out last) (top ∷ []) e = refl
 over_rests (mode.Out last) (top ∷ one ∷ rest) e = absurd (cc)
@@ -528,14 +464,14 @@ restoring_goes taken.Nothing zero at holds e = go (is_over at holds) refl
 
 -- a job that is cut is left with what it owed
 pub cut_left : (seat : HostSeat) (brings : Taken) (count : ℕ) (at : Mode) (tree : RequestTree) (holds : List Hold)
-    (marks : List ℕ) → IsAsks tree → is_ready at holds marks ≡ true → is_all_over brings count at holds ≡ false →
+    (marks : List ℕ) → is_ready at holds marks ≡ true → is_all_over brings count at holds ≡ false →
     close_first brings count holds (leave seat holds (finish.Answer answer.Cut))
     ≡ cut seat (owed_by (left_of seat brings count at tree holds marks))
-cut_left seat (taken.Fd fd slot) count at tree holds marks asks ready e = refl
-cut_left seat taken.Slot count at tree holds marks asks ready e = refl
-cut_left seat taken.Nothing (suc count) at tree holds marks asks ready e = refl
-cut_left seat taken.Nothing zero at tree holds marks asks ready e =
-    ap (cut seat) (sym ((mode_stands seat at tree holds marks asks ready).owes_all e))
+cut_left seat (taken.Fd fd slot) count at tree holds marks ready e = refl
+cut_left seat taken.Slot count at tree holds marks ready e = refl
+cut_left seat taken.Nothing (suc count) at tree holds marks ready e = refl
+cut_left seat taken.Nothing zero at tree holds marks ready e =
+    ap (cut seat) (sym ((mode_stands seat at tree holds marks ready).owes_all e))
 
 -- what is finished ends
 pub ends_over : (seat : HostSeat) (brings : Taken) (count : ℕ) (at : Mode) (tree : RequestTree) (holds : List Hold)
@@ -557,7 +493,8 @@ told_end (taken.Fd fd slot) count at holds lost e t = absurd (cc)
 told_end taken.Slot count at holds lost e t = absurd (cc)
 told_end taken.Nothing (suc count) at holds lost e t = absurd (cc)
 told_end taken.Nothing zero mode.Body holds lost e t = absurd (cc)
-told_end taken.Nothing zero (mode.Edge edges more) holds lost e t = absurd (cc)
+told_end taken.Nothing zero mode.Bares holds lost e t = absurd (cc)
+told_end taken.Nothing zero (mode.Shuts passes) holds lost e t = absurd (cc)
 told_end taken.Nothing zero (mode.Out last) holds lost e t = none_unless (is_cut last) lost t
 told_end taken.Nothing zero (mode.Leave last) holds lost e t = t
 

@@ -1,5 +1,9 @@
 pub mod Counting
 pub mod Framing
+pub mod Reading
+pub mod Keeping
+pub mod Ahead
+pub mod Entering
 pub mod Second
 pub mod Tending
 pub mod Wearing

@@ -3,6 +3,7 @@ use Rattle.std.specs.Prelude.{ℕ, Bool, true, false, if◌then◌else◌, List,
 use Rattle.pt_host.specs.Errno.{ebadf, eio, enfile, eoverflow}
 use Rattle.pt_host.specs.declared.ids.Errno.{Errno}
 use Rattle.pt_host.specs.declared.reply.HostReply.TheVariants as host
+use Rattle.pt_host.specs.declared.reply.HostValue.TheVariants as value
 use Rattle.pt_session.specs.Change.{Change}
 use Rattle.pt_session.specs.declared.event.KeptEvent.TheVariants as change
 use Rattle.pt_session.specs.declared.reply.EventReply.{EventReply}
@@ -48,6 +49,11 @@ fault_in (Host host.NoMemory) = None
 fault_in (Host (host.Ok told)) = None
 fault_in (Event told) = None
 fault_in NoCopy = None
+
+-- the bytes that a reply brought
+abbrev pub bytes_of : ActReply → Option (List ℕ)
+bytes_of (Host (host.Ok (value.Bytes bytes))) = Some bytes
+bytes_of told = None
 
 -- that counts only where the step was to restore the seat
 abbrev pub fault_if : Bool → ActReply → Option Errno

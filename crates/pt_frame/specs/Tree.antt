@@ -1,5 +1,5 @@
 -- Believed. What a request does, its frame aside, and what it does in its frame.
-use Rattle.std.specs.Prelude.{ℕ, Bool, true, false, List, [], ◌∷◌, length}
+use Rattle.std.specs.Prelude.{ℕ, Bool, true, false, List, [], ◌∷◌, length, Option, Some, None}
 use Rattle.pt_host.specs.Call.{Call}
 use Rattle.pt_host.specs.declared.seat.HostSeat.{HostSeat}
 use Rattle.pt_iface.specs.declared.answer.Answer.{Answer}
@@ -29,7 +29,7 @@ pub data RequestTree : Type 0 where
   Brackets : RequestTree → RequestTree
   -- the innermost bracket ends, and the last hold of all may pass its end
   Shuts : Bool → RequestTree → RequestTree
-  -- what was told takes memory to go on with, and only here may the job give up
+  -- what was told takes memory to go on with
   Allocates : RequestTree → RequestTree
 
 abbrev pub allocates : RequestTree → Bool
@@ -41,6 +41,14 @@ allocates (Opens asked scope next) = false
 allocates (Bares rest) = false
 allocates (Brackets rest) = false
 allocates (Shuts passes rest) = false
+
+-- The request goes on by what is read of a reply; any other reply is answered as a refusal.
+unfoldable pub go_on : {V : Type 0} → (V → RequestTree) → ActReply → Option V → RequestTree
+go_on next told (Some value) = next value
+go_on next told None = Refuses told
+
+unfoldable pub on : {V : Type 0} → (ActReply → Option V) → (V → RequestTree) → ActReply → RequestTree
+on read next told = go_on next told (read told)
 
 -- a job may give up where what follows takes memory, and nowhere else
 abbrev pub or_gives_up : Bool → Grammar → Grammar → Grammar

@@ -1,9 +1,10 @@
 mod body;
 mod framed;
 mod giving;
+mod going;
 mod holding;
 mod mode;
 
-pub use body::{Body, Edges, Next, Shut, Then, Wanted};
+pub use body::{Body, ended};
 pub use framed::Framed;
 pub use holding::row_fd;

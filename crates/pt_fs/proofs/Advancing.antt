@@ -19,7 +19,7 @@ use Rattle.pt_frame.specs.declared.act.ActReply.TheVariants.{Event, Host, NoCopy
 use Rattle.pt_frame.specs.declared.act.KeptAct.{KeptAct}
 use Rattle.pt_frame.specs.declared.act.KeptAct.TheVariants as kept_act
 use Rattle.pt_frame.specs.declared.act.Want.TheVariants as want
-use Rattle.pt_attr.specs.Machine.Job.{owes, lost_of, restores_now, steps_left, steps_bound, inserts_left}
+use Rattle.pt_job.specs.Machine.Job.{owes, lost_of, restores_now, steps_left, steps_bound, inserts_left}
 use Rattle.pt_law.proofs.Told.{Promises, bytes_told}
 use Rattle.pt_req.specs.declared.plan.Plan.{Plan}
 use Rattle.pt_fs.specs.Advances.{IsWanted, Advances, inserted_in}

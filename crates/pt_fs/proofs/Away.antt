@@ -6,7 +6,7 @@ use Rattle.std.proofs.lemmas.List.{length-set}
 use Rattle.std.proofs.lemmas.Option.{same_Some, slice_get_within, get_or_from_slice_get}
 use Rattle.pt_host.specs.declared.seat.HostSeat.{HostSeat}
 use Rattle.pt_frame.specs.Grammar.{End}
-use Rattle.pt_attr.specs.Machine.Job.{owes as job_owes, is_finished as is_job_over, lost_of as job_lost}
+use Rattle.pt_job.specs.Machine.Job.{owes as job_owes, is_finished as is_job_over, lost_of as job_lost}
 use Rattle.pt_req.specs.declared.plan.Plan.{Plan}
 use Rattle.pt_fs.specs.Laid.{Kept, Laid, AllGo, GoElsewhere, StaysAsIs, Settles, found_state, state_at, states_in}
 use Rattle.pt_fs.specs.Laid.{still}

@@ -18,7 +18,7 @@ use Rattle.pt_frame.specs.Memory.{RanOut}
 use Rattle.pt_frame.specs.Past.{no_past, past_of}
 use Rattle.pt_frame.specs.declared.finish.Finish.{Finish}
 use Rattle.pt_frame.specs.declared.finish.Finish.TheVariants as finish
-use Rattle.pt_attr.proofs.Answering.{is_determined}
+use Rattle.pt_job.proofs.Answering.{is_determined}
 use Rattle.pt_req.specs.declared.plan.Plan.{Plan}
 use Rattle.pt_law.specs.Told.{AllMayBeTold}
 use Rattle.pt_law.proofs.Hosts.{hosts_told}

@@ -17,8 +17,8 @@ use Rattle.pt_frame.specs.Replies.{is_cut}
 use Rattle.pt_frame.specs.Tended.{Tended, IsFinish, IsUncut}
 use Rattle.pt_frame.specs.declared.finish.Finish.{Finish}
 use Rattle.pt_frame.specs.declared.finish.Finish.TheVariants as finish
-use Rattle.pt_attr.specs.Pattern.{Asked, Requests, Edits, grammar_for, bound_for}
-use Rattle.pt_attr.proofs.Answering.{tends}
+use Rattle.pt_job.specs.Pattern.{Asked, Requests, Edits, grammar_for, bound_for}
+use Rattle.pt_job.proofs.Answering.{tends}
 use Rattle.pt_req.specs.declared.plan.Plan.{Plan}
 use Rattle.pt_fs.specs.Each.{IsBegun, EachStarted, EachAnswered, EndsAs, answer_of}
 use Rattle.pt_fs.specs.GoesOn.{EachWent}

@@ -23,7 +23,7 @@ use Rattle.pt_frame.specs.declared.finish.Finish.{Finish}
 use Rattle.pt_frame.specs.declared.finish.Finish.TheVariants as finish
 use Rattle.pt_frame.proofs.Ending.{is_cut_off}
 use Rattle.pt_fs.specs.Running.{owes, is_finished, lost_of, steps_bound}
-use Rattle.pt_attr.specs.Pattern.{bound_for}
+use Rattle.pt_job.specs.Pattern.{bound_for}
 use Rattle.pt_req.specs.declared.plan.Plan.{Plan}
 use Rattle.pt_law.proofs.Told.{Promises}
 use Rattle.pt_fs.specs.Advances.{Advances}

@@ -20,7 +20,7 @@ use Rattle.pt_frame.specs.Grammar.{Belongs}
 use Rattle.pt_frame.specs.Memory.{RanOut}
 use Rattle.pt_frame.specs.Past.{past_of}
 use Rattle.pt_host.specs.Relation.{HostRelation}
-use Rattle.pt_attr.specs.Pattern.{Asked, Requests, Edits, grammar_for}
+use Rattle.pt_job.specs.Pattern.{Asked, Requests, Edits, grammar_for}
 use Rattle.pt_frame.specs.declared.finish.Finish.TheVariants as finish
 use Rattle.pt_req.specs.declared.plan.Plan.{Plan}
 use Rattle.pt_law.specs.Told.{AllMayBeTold}

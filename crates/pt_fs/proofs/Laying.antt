@@ -9,7 +9,7 @@ use Rattle.std.proofs.lemmas.Option.{same_Some, slice_get-map}
 use Rattle.std.proofs.lemmas.Option.{get_or_from_slice_get}
 use Rattle.pt_host.specs.declared.seat.HostSeat.{HostSeat}
 use Rattle.pt_frame.specs.Grammar.{is_end}
-use Rattle.pt_attr.specs.Machine.Job.{owes as job_owes, is_finished as is_job_over}
+use Rattle.pt_job.specs.Machine.Job.{owes as job_owes, is_finished as is_job_over}
 use Rattle.pt_req.specs.declared.plan.Plan.{Plan}
 use Rattle.pt_fs.specs.Jobs.{asked_of}
 use Rattle.pt_fs.specs.Laid.{Kept, Laid, AllGo, GoElsewhere, StaysAsIs, Wakes, Settles, found_state, state_at}

@@ -25,6 +25,7 @@ pub mod Leads
 pub mod Seated
 pub mod Whole
 pub mod LostStep
+pub mod Stopping
 pub mod Finale
 pub mod Concluding
 pub mod OneLoss

@@ -14,8 +14,8 @@ use Rattle.pt_frame.specs.declared.act.ActReply.{ActReply}
 use Rattle.pt_frame.specs.declared.act.ActReply.TheVariants.{Event, Host, NoCopy}
 use Rattle.pt_frame.specs.declared.finish.Finish.TheVariants as finish
 use Rattle.pt_req.specs.declared.plan.Plan.{Plan}
-use Rattle.pt_attr.specs.Pattern.{Asked, Requests, Edits, grammar_for}
-use Rattle.pt_attr.proofs.Answering.{has_cause}
+use Rattle.pt_job.specs.Pattern.{Asked, Requests, Edits, grammar_for}
+use Rattle.pt_job.proofs.Answering.{has_cause}
 use Rattle.pt_law.specs.Told.{MayBeTold, StepMayBeTold, AllMayBeTold}
 
 same_answer : (one other : Answer) → finish.Answer one ≡ finish.Answer other → one ≡ other

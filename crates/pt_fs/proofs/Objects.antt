@@ -16,7 +16,7 @@ use Rattle.pt_frame.specs.Grammar.{Belongs}
 use Rattle.pt_host.specs.Relation.{HostRelation}
 use Rattle.pt_frame.specs.declared.finish.Finish.TheVariants as finish
 use Rattle.pt_req.specs.declared.plan.Plan.{Plan}
-use Rattle.pt_attr.specs.Pattern.{Asked, Requests, grammar_of, grammar_for}
+use Rattle.pt_job.specs.Pattern.{Asked, Requests, grammar_of, grammar_for}
 use Rattle.pt_law.specs.Giving.{GivingPlaces, up_to}
 use Rattle.pt_law.specs.Discipline.{AreDisciplined}
 use Rattle.pt_law.specs.Laws.{AreKept, NamesOpen, ObjectOf, Starts}

@@ -15,7 +15,7 @@ use Rattle.pt_frame.specs.Past.{Past, past_of, past_from, past_made}
 use Rattle.pt_frame.specs.declared.act.ActReply.{ActReply}
 use Rattle.pt_frame.specs.declared.act.ActReply.TheVariants.{Host}
 use Rattle.pt_frame.specs.declared.finish.Finish.TheVariants as finish
-use Rattle.pt_attr.specs.Pattern.{Asked}
+use Rattle.pt_job.specs.Pattern.{Asked}
 use Rattle.pt_req.specs.declared.plan.Plan.{Plan}
 use Rattle.pt_law.specs.Told.{AllMayBeTold}
 use Rattle.pt_law.specs.Under.{IsSeated, IsUnrefused, AreUnrefused, AllSeatsAnswer}

@@ -6,7 +6,7 @@ use Rattle.pt_host.specs.declared.ids.Errno.{Errno}
 use Rattle.pt_host.specs.declared.seat.HostSeat.{HostSeat}
 use Rattle.pt_iface.specs.declared.request.Request.TheVariants as request
 use Rattle.pt_frame.specs.Grammar.{IsSettled, is_end, restores}
-use Rattle.pt_attr.specs.Pattern.{Asked, Requests, Edits, grammar_for}
+use Rattle.pt_job.specs.Pattern.{Asked, Requests, Edits, grammar_for}
 use Rattle.pt_req.specs.declared.plan.Plan.{Plan}
 use Rattle.pt_fs.specs.Jobs.{asked_of}
 use Rattle.pt_fs.specs.Laid.{Lies, found_state, runs_in, state_at}

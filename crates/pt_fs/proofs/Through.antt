@@ -9,8 +9,8 @@ use Rattle.pt_frame.specs.Deed.{Deed}
 use Rattle.pt_frame.specs.Grammar.{Grammar, restores}
 use Rattle.pt_frame.specs.Past.{lost_after}
 use Rattle.pt_frame.specs.declared.act.ActReply.{ActReply}
-use Rattle.pt_attr.specs.Machine.Job.{owes as job_owes, steps_left as job_left, steps_bound as job_bound}
-use Rattle.pt_attr.specs.Machine.Job.{inserts_left as job_inserts, lost_of as job_lost}
+use Rattle.pt_job.specs.Machine.Job.{owes as job_owes, steps_left as job_left, steps_bound as job_bound}
+use Rattle.pt_job.specs.Machine.Job.{inserts_left as job_inserts, lost_of as job_lost}
 use Rattle.pt_req.specs.declared.plan.Plan.{Plan}
 use Rattle.pt_fs.specs.Advances.{Advances, inserted_in}
 use Rattle.pt_fs.specs.Running.{Running, State, owes, steps_left, steps_bound, inserts_left, lost_of}

@@ -4,7 +4,7 @@ use Rattle.pt_iface.specs.declared.answer.Answer.{Answer}
 use Rattle.pt_iface.specs.declared.answer.Answer.TheVariants as answer
 use Rattle.pt_frame.specs.Grammar.{End}
 use Rattle.pt_fs.specs.Running.{owes, steps_bound, inserts_left, lost_of}
-use Rattle.pt_attr.specs.Pattern.{bound_for, most_inserted}
+use Rattle.pt_job.specs.Pattern.{bound_for, most_inserted}
 use Rattle.pt_frame.specs.declared.finish.Finish.{Finish}
 use Rattle.pt_frame.specs.declared.finish.Finish.TheVariants as finish
 use Rattle.pt_req.specs.declared.plan.Plan.{Plan}

@@ -3,8 +3,8 @@ use Rattle.std.specs.Prelude.{◌≡◌, ◌≢◌, ◌≤◌, ◌+◌, ℕ, Lis
 use Rattle.std.specs.Prelude.{slice_set}
 use Rattle.pt_host.specs.declared.seat.HostSeat.{HostSeat}
 use Rattle.pt_iface.specs.declared.request.Request.TheVariants as request
-use Rattle.pt_attr.specs.Machine.Job.{is_finished as is_job_over}
-use Rattle.pt_attr.specs.Pattern.{Requests}
+use Rattle.pt_job.specs.Machine.Job.{is_finished as is_job_over}
+use Rattle.pt_job.specs.Pattern.{Requests}
 use Rattle.pt_req.specs.declared.plan.Plan.{Plan}
 use Rattle.pt_fs.specs.Jobs.{job_seat, job_start, asked_of, daemon}
 use Rattle.pt_fs.specs.Running.{Waits, Goes, Ended, State, Running, owes, steps_left, steps_bound, inserts_left}

@@ -15,6 +15,7 @@ pub mod Work
 pub mod Took
 pub mod GoesOn
 pub mod Recorded
+pub mod Stopped
 pub mod Keeps
 pub mod Run
 pub mod Ends

@@ -37,6 +37,13 @@ pub record Wrote
   pub written : Writes wrote before steps after
   pub so : holds steps
 
+-- the file system that comes back, however the run ended
+abbrev pub fs_back : {F : Type 0} → Result (Left F) (DriveIntoError F) → F
+fs_back (Ok left) = left.fs
+fs_back (Err (CredentialsLost lost errno left)) = left.fs
+fs_back (Err (Memory fs)) = fs
+fs_back (Err (Record fs)) = fs
+
 -- of what a run left, and of the job that lost its seat, if one did, and by which error
 abbrev pub OnEnd :
     {F : Type 0} →

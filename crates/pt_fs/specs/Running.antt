@@ -4,10 +4,10 @@ use Rattle.pt_host.specs.declared.ids.Errno.{Errno}
 use Rattle.pt_host.specs.declared.seat.HostSeat.{HostSeat}
 use Rattle.pt_frame.specs.Grammar.{Grammar, End}
 use Rattle.pt_frame.specs.declared.finish.Finish.{Finish}
-use Rattle.pt_attr.specs.Machine.Job.{owes as job_owes, steps_left as job_left, steps_bound as job_bound}
-use Rattle.pt_attr.specs.Machine.Job.{inserts_left as job_inserts, is_finished as is_job_over, lost_of as job_lost}
-use Rattle.pt_attr.specs.Pattern.{Asked, grammar_for, bound_for, most_inserted}
-use Rattle.pt_attr.specs.declared.job.AnyJob.{AnyJob}
+use Rattle.pt_job.specs.Machine.Job.{owes as job_owes, steps_left as job_left, steps_bound as job_bound}
+use Rattle.pt_job.specs.Machine.Job.{inserts_left as job_inserts, is_finished as is_job_over, lost_of as job_lost}
+use Rattle.pt_job.specs.Pattern.{Asked, grammar_for, bound_for, most_inserted}
+use Rattle.pt_job.specs.declared.job.AnyJob.{AnyJob}
 use Rattle.pt_req.specs.declared.plan.Plan.{Plan}
 
 -- it has made no step, it is on its way, or it has ended, and then what was lost of its seat

@@ -8,7 +8,7 @@ use Rattle.pt_frame.specs.Grammar.{Grammar, restores}
 use Rattle.pt_frame.specs.Past.{lost_after}
 use Rattle.pt_frame.specs.declared.act.ActReply.{ActReply}
 use Rattle.pt_frame.specs.declared.act.KeptAct.{KeptAct}
-use Rattle.pt_attr.specs.Machine.Job.{owes, steps_left, steps_bound, inserts_left, lost_of}
+use Rattle.pt_job.specs.Machine.Job.{owes, steps_left, steps_bound, inserts_left, lost_of}
 use Rattle.pt_req.specs.declared.plan.Plan.{Plan}
 use Rattle.pt_fs.specs.Advances.{Advances, IsWanted, inserted_in}
 use Rattle.pt_fs.specs.Trace.{IsShown, MadeFrom, told_by}

@@ -10,7 +10,7 @@ use Rattle.pt_frame.specs.Replies.{closings_in}
 use Rattle.pt_host.specs.Relation.{HostRelation}
 use Rattle.pt_frame.specs.Made.{Made}
 use Rattle.pt_frame.specs.Past.{past_of}
-use Rattle.pt_attr.specs.Pattern.{bound_for, most_inserted}
+use Rattle.pt_job.specs.Pattern.{bound_for, most_inserted}
 use Rattle.pt_frame.specs.declared.act.ActReply.{ActReply}
 use Rattle.pt_frame.specs.declared.act.ActReply.TheVariants as act_reply
 use Rattle.pt_req.specs.declared.plan.Plan.{Plan}

@@ -4,13 +4,13 @@ ghost use Rattle.pt_host.specs.declared.seat.HostSeat.{HostSeat};
 ghost use Rattle.pt_session.specs.Change.{change_of};
 ghost use Rattle.pt_session.specs.Happens.{Happens};
 ghost use Rattle.pt_session.specs.Tables.{Tables};
-ghost use Rattle.pt_attr.specs.Machine.Job.{owes, steps_bound, inserts_left, lost_of};
-ghost use Rattle.pt_attr.specs.Pattern.{grammar_of, bound_of, most_inserted};
+ghost use Rattle.pt_job.specs.Machine.Job.{owes, steps_bound, inserts_left, lost_of};
+ghost use Rattle.pt_job.specs.Pattern.{grammar_of, bound_of, most_inserted};
 ghost use Rattle.pt_req.specs.declared.plan.Plan.{Plan};
 
-use pt_attr::AnyJob;
 use pt_host::Fd;
 use pt_iface::{Context, Request};
+use pt_job::AnyJob;
 use pt_req::Plan;
 use pt_session::{Event, EventReply, Session};
 use std::alloc::Global;

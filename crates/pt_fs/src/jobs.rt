@@ -8,7 +8,7 @@ ghost use Rattle.std.specs.Prelude.{slice_get, slice_set, vec_capacity};
 ghost use Rattle.pt_host.specs.Words.{Each};
 ghost use Rattle.pt_host.specs.declared.seat.HostSeat.{HostSeat};
 ghost use Rattle.pt_frame.specs.Grammar.{is_end, restores, IsSettled};
-ghost use Rattle.pt_attr.specs.Machine.Job.{is_finished as is_job_over};
+ghost use Rattle.pt_job.specs.Machine.Job.{is_finished as is_job_over};
 ghost use Rattle.pt_req.specs.declared.plan.Plan.{Plan};
 ghost use Rattle.pt_fs.specs.Each.{EachAnswered};
 ghost use Rattle.pt_fs.specs.Jobs.{job_start};
@@ -16,6 +16,7 @@ ghost use Rattle.pt_fs.specs.Laid.{GoElsewhere, Kept, Laid, Settles, Wakes, stat
 ghost use Rattle.pt_fs.specs.Loses.{CutRun};
 ghost use Rattle.pt_fs.specs.Placed.{Goes, Waits};
 ghost use Rattle.pt_fs.specs.Recorded.{Wrote};
+ghost use Rattle.pt_fs.specs.Stopped.{Stopped};
 ghost use Rattle.pt_fs.specs.Running.{Running, State, is_finished, inserts_left, owes};
 ghost use Rattle.pt_fs.specs.Took.{Took, IsFinishedAt, IsUnfinished};
 ghost use Rattle.pt_fs.specs.Went.{run_seat};
@@ -226,6 +227,8 @@ pub fn take_step<H: Host, R: Record>(
         session.new steps lost)) }
     ensures room { IfOk result (λ lost. KeepsPace (R.room writer.old) (work running.old session.old)
         (R.room writer.new) (work running.new session.new)) }
+    ensures stopped { OnErr result (Stopped H.does R.wrote R.unwritten host.old (map run_seat running.old)
+        session.old writer.old host.new session.new writer.new) }
     ensures full { OnErr result (R.room writer.old < work running.old session.old) }
 {
     let index = wake(&mut running.places, &mut running.going, place as usize);

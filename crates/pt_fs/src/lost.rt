@@ -1,13 +1,15 @@
 //! What follows a lost seat.
 
-ghost use Rattle.std.specs.Prelude.{◌≡◌, ◌+◌, ◌<◌, ◌≤◌, ◌^◌, ℕ, [], Some, suc, length, slice_get, slice_set};
+ghost use Rattle.std.specs.Prelude.{◌≡◌, ◌+◌, ◌<◌, ◌≤◌, ◌^◌, ℕ, [], Some, suc, length, map, slice_get, slice_set};
 ghost use Rattle.std.specs.Prelude.{OnErr, OnOk};
 ghost use Rattle.pt_fs.specs.Running.{Running, steps_bound, inserts_left};
 ghost use Rattle.pt_fs.specs.GoesOn.{GoesOn};
 ghost use Rattle.pt_fs.specs.Loses.{Restored, IsOver, IsCutFrom, CutAll, WindsUp};
 ghost use Rattle.pt_fs.specs.Order.{rest_of};
 ghost use Rattle.pt_fs.specs.Recorded.{Wrote};
+ghost use Rattle.pt_fs.specs.Stopped.{Stopped};
 ghost use Rattle.pt_fs.specs.Took.{IsFinishedAt};
+ghost use Rattle.pt_fs.specs.Went.{run_seat};
 ghost use Rattle.pt_fs.specs.Work.{KeepsPace, bounds_in, work};
 
 use crate::jobs::{Jobs, take_step};
@@ -34,6 +36,8 @@ fn restore_rest<H: Host, R: Record>(
     ensures over { OnOk result (IsOver plan.now job running.new) }
     ensures room { OnOk result (KeepsPace (R.room writer.old) (work running.old session.old)
         (R.room writer.new) (work running.new session.new)) }
+    ensures stopped { OnErr result (Stopped H.does R.wrote R.unwritten host.old (map run_seat running.old)
+        session.old writer.old host.new session.new writer.new) }
     ensures full { OnErr result (R.room writer.old < work running.old session.old) }
 {
     while running.restoring(job as usize) {
@@ -87,6 +91,8 @@ fn end_one<H: Host, R: Record>(
     ensures others { OnOk result ((j : ℕ) → IsFinishedAt running.old j → IsFinishedAt running.new j) }
     ensures room { OnOk result (KeepsPace (R.room writer.old) (work running.old session.old)
         (R.room writer.new) (work running.new session.new)) }
+    ensures stopped { OnErr result (Stopped H.does R.wrote R.unwritten host.old (map run_seat running.old)
+        session.old writer.old host.new session.new writer.new) }
     ensures full { OnErr result (R.room writer.old < work running.old session.old) }
 {
     while !running.is_finished(place as usize) {
@@ -111,6 +117,8 @@ fn end_all<H: Host, R: Record>(
     ensures finished { OnOk result ((j : ℕ) → IsFinishedAt running.new j) }
     ensures room { OnOk result (KeepsPace (R.room writer.old) (work running.old session.old)
         (R.room writer.new) (work running.new session.new)) }
+    ensures stopped { OnErr result (Stopped H.does R.wrote R.unwritten host.old (map run_seat running.old)
+        session.old writer.old host.new session.new writer.new) }
     ensures full { OnErr result (R.room writer.old < work running.old session.old) }
 {
     for place in 0..running.len() {
@@ -138,6 +146,8 @@ pub fn wind_up<H: Host, R: Record>(
     ensures same { OnOk result (length running.new ≡ length running.old) }
     ensures room { OnOk result (KeepsPace (R.room writer.old) (work running.old session.old)
         (R.room writer.new) (work running.new session.new)) }
+    ensures stopped { OnErr result (Stopped H.does R.wrote R.unwritten host.old (map run_seat running.old)
+        session.old writer.old host.new session.new writer.new) }
     ensures full { OnErr result (R.room writer.old < work running.old session.old) }
 {
     restore_rest(alloc, host, plan, session, running, writer, job)?;

@@ -1,18 +1,18 @@
 ghost use Rattle.std.specs.Prelude.{◌≡◌, true};
 ghost use Rattle.pt_host.specs.declared.seat.HostSeat.{HostSeat};
 ghost use Rattle.pt_frame.specs.Grammar.{End};
-ghost use Rattle.pt_attr.specs.Machine.Job.{owes, is_finished, lost_of};
+ghost use Rattle.pt_job.specs.Machine.Job.{owes, is_finished, lost_of};
 ghost use Rattle.pt_req.specs.declared.plan.Plan.{Plan};
-ghost use Rattle.pt_attr.specs.Pattern.{Requests};
+ghost use Rattle.pt_job.specs.Pattern.{Requests};
 ghost use Rattle.pt_fs.specs.Jobs.{asked_of, no_seat};
 ghost use Rattle.pt_fs.specs.Laid.{StaysAsIs};
 ghost use Rattle.pt_fs.specs.Running.{Goes, Waits};
 
 use crate::job::Job;
-use pt_attr::AnyJob;
 use pt_frame::Finish;
 use pt_host::{Caps, Errno, Groups, HostSeat};
 use pt_iface::{Context, Request};
+use pt_job::AnyJob;
 
 /// A job on its way.
 #[derive(Drop)]

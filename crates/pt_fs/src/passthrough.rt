@@ -15,9 +15,9 @@ ghost use Rattle.pt_fs.specs.FileSystem.{
 };
 
 use crate::fs::SteppedFs;
-use pt_attr::AnyJob;
 use pt_host::{Errno, Fd, Host, HostOp, HostReply, HostSeat, HostValue, OpenFlags};
 use pt_iface::{Context, Refusal, Request};
+use pt_job::AnyJob;
 use pt_maps::{IdMap, IdRules, MapError};
 use pt_req::{Config, Plan};
 use pt_session::{Event, EventReply, Session};

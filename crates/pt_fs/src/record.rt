@@ -30,6 +30,9 @@ pub trait Record {
     /// From this record, this act of this job leaves that one, in which its reply is still to be written.
     ghost wrote_act: { Self → ℕ → KeptAct → Self → Type 0 };
 
+    /// From this record, a step that could not be written down leaves that one.
+    ghost unwritten: { Self → Self → Type 0 };
+
     /// For how many steps more it has room, at least.
     ghost room: { Self → ℕ };
 
@@ -44,6 +47,7 @@ pub trait Record {
         ensures wrote { IfOk result (λ how. wrote_act self.old job (noted how (deed_of act.now)) self.new) }
         ensures uncopied { IfOk result (λ how. how ≡ written.NoCopy → MayFailToCopy (deed_of act.now)) }
         ensures room { OnOk result (room self.old ≤ room self.new + 1) }
+        ensures unwritten { OnErr result (unwritten self.old self.new) }
         ensures full { OnErr result (room self.old ≡ 0) };
 
     /// Writes down what the last act was answered. The reply that it leaves is for the job; where the record has to
@@ -54,6 +58,8 @@ pub trait Record {
             wrote before (record { job = job; act = act; reply = reply.new }) self.new) }
         ensures shown { IsShown reply.old reply.new }
         ensures room { OnOk result (room self.old ≤ room self.new) }
+        ensures unwritten { OnErr result ((before : Self) (job : ℕ) (act : KeptAct) →
+            wrote_act before job act self.old → unwritten before self.new) }
         ensures full { OnErr result ((before : Self) (job : ℕ) (act : KeptAct) → wrote_act before job act self.old →
             room before ≡ 0) };
 }
@@ -80,6 +86,8 @@ impl Record for Vec<TraceStep> {
     ghost wrote_act = { λ steps job act longer.
         (longer.items ≡ steps.items ++ record { job = job; act = act; reply = told.NoCopy } ∷ [])
         × (vec_capacity steps ≤ vec_capacity longer) };
+
+    ghost unwritten = { λ steps same. same.items ≡ steps.items };
 
     ghost room = { λ steps. vec_capacity steps - length steps.items };
 

@@ -4,9 +4,10 @@ ghost use Rattle.std.specs.Prelude.{◌≡◌, ◌<◌, ◌^◌, ℕ, length, ma
 ghost use Rattle.pt_session.specs.Tables.{empty_tables};
 ghost use Rattle.pt_fs.specs.Each.{EachAnswered};
 ghost use Rattle.pt_fs.specs.Ends.{RunEndsSo};
-ghost use Rattle.pt_fs.specs.Jobs.{StartAll};
-ghost use Rattle.pt_fs.specs.Recorded.{OnEnd, OnNoRoom, OnUnwritten, Wrote};
+ghost use Rattle.pt_fs.specs.Jobs.{StartAll, job_seat};
+ghost use Rattle.pt_fs.specs.Recorded.{OnEnd, OnNoRoom, OnUnwritten, Wrote, fs_back};
 ghost use Rattle.pt_fs.specs.Run.{IsRun};
+ghost use Rattle.pt_fs.specs.Stopped.{Stopped};
 ghost use Rattle.pt_fs.specs.Took.{IsFinishedAt};
 ghost use Rattle.pt_fs.specs.Trace.{seated, room_of as room};
 ghost use Rattle.pt_fs.specs.Went.{run_seat};
@@ -71,13 +72,18 @@ pub fn drive_into<H: Host, F: SteppedFs, R: Record>(
     // Each job has its seat's place, also an edit, which has none.
     ensures one_each { OnEnd result (λ left lost. length left.seats.items ≡ length jobs.items) }
 
-    // The configuration and the descriptor of the host's root stay.
-    ensures plan { OnEnd result (λ left lost. F.plan_of left.fs ≡ F.plan_of fs) }
-    ensures root { OnEnd result (λ left lost. F.root left.fs ≡ F.root fs) }
+    // However the run ended, the configuration and the descriptor of the host's root stay.
+    ensures plan { F.plan_of (fs_back result) ≡ F.plan_of fs }
+    ensures root { F.root (fs_back result) ≡ F.root fs }
 
     // Want of memory for the jobs comes before the first step, and the file system comes back as it was.
     ensures nothing_done { OnNoRoom result (λ back. (host.new ≡ host.old) × (writer.new ≡ writer.old)) }
     ensures handed_back { OnNoRoom result (λ back. back ≡ fs) }
+
+    // Where a step could not be written down, those that were lead to where it was made, and nothing is made after it.
+    ensures stopped { OnUnwritten result (λ back.
+        Stopped H.does R.wrote R.unwritten host.old (map job_seat jobs.items) (F.tables fs) writer.old
+        host.new (F.tables back) writer.new) }
 
     // A record with room for all steps is not full.
     ensures full { OnUnwritten result (λ stopped. R.room writer.old < room jobs.items) }

@@ -1,5 +1,5 @@
 ghost use Rattle.std.specs.Prelude.{◌≡◌, ◌+◌, ◌<◌, ◌≤◌, ◌^◌, [], ◌∷◌, ◌++◌, length, IfOk, vec_capacity};
-ghost use Rattle.pt_attr.specs.Pattern.{bound_of, bound_for};
+ghost use Rattle.pt_job.specs.Pattern.{bound_of, bound_for};
 ghost use Rattle.pt_fs.specs.Jobs.{asked_of};
 ghost use Rattle.pt_fs.specs.Trace.{room_of as room};
 

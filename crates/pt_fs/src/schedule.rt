@@ -1,9 +1,11 @@
-ghost use Rattle.std.specs.Prelude.{◌≡◌, ◌+◌, ◌<◌, ◌^◌, ℕ, [], Some, suc, length, IfOk, OnErr};
+ghost use Rattle.std.specs.Prelude.{◌≡◌, ◌+◌, ◌<◌, ◌^◌, ℕ, [], Some, suc, length, map, IfOk, OnErr};
 ghost use Rattle.pt_fs.specs.GoesOn.{GoesOn};
 ghost use Rattle.pt_fs.specs.Loses.{LostAt};
 ghost use Rattle.pt_fs.specs.Order.{order, rest_of};
 ghost use Rattle.pt_fs.specs.Recorded.{Wrote};
+ghost use Rattle.pt_fs.specs.Stopped.{Stopped};
 ghost use Rattle.pt_fs.specs.Took.{Took, IsFinishedAt, NoneLost, OnKept, OnLoss, TookOrStays};
+ghost use Rattle.pt_fs.specs.Went.{run_seat};
 ghost use Rattle.pt_fs.specs.Work.{KeepsPace, work};
 
 use crate::jobs::{Jobs, take_step};
@@ -39,6 +41,8 @@ fn take_if_unfinished<H: Host, R: Record>(
         session.new steps (Some errno))) }
     ensures room { IfOk result (λ told. KeepsPace (R.room writer.old) (work running.old session.old)
         (R.room writer.new) (work running.new session.new)) }
+    ensures stopped { OnErr result (Stopped H.does R.wrote R.unwritten host.old (map run_seat running.old)
+        session.old writer.old host.new session.new writer.new) }
     ensures full { OnErr result (R.room writer.old < work running.old session.old) }
 {
     if place as usize >= running.len() {
@@ -70,6 +74,8 @@ pub fn run_schedule<H: Host, R: Record>(
         session.old [] host.new running.new session.new steps loss.job loss.errno)) }
     ensures room { IfOk result (λ told. KeepsPace (R.room writer.old) (work running.old session.old)
         (R.room writer.new) (work running.new session.new)) }
+    ensures stopped { OnErr result (Stopped H.does R.wrote R.unwritten host.old (map run_seat running.old)
+        session.old writer.old host.new session.new writer.new) }
     ensures full { OnErr result (R.room writer.old < work running.old session.old) }
 {
     for &place in schedule {
@@ -105,6 +111,8 @@ fn finish_one<H: Host, R: Record>(
         host.new running.new session.new steps place errno)) }
     ensures room { IfOk result (λ told. KeepsPace (R.room writer.old) (work running.old session.old)
         (R.room writer.new) (work running.new session.new)) }
+    ensures stopped { OnErr result (Stopped H.does R.wrote R.unwritten host.old (map run_seat running.old)
+        session.old writer.old host.new session.new writer.new) }
     ensures full { OnErr result (R.room writer.old < work running.old session.old) }
 {
     while !running.is_finished(place as usize) {
@@ -136,6 +144,8 @@ pub fn finish_all<H: Host, R: Record>(
         session.old [] host.new running.new session.new steps loss.job loss.errno)) }
     ensures room { IfOk result (λ told. KeepsPace (R.room writer.old) (work running.old session.old)
         (R.room writer.new) (work running.new session.new)) }
+    ensures stopped { OnErr result (Stopped H.does R.wrote R.unwritten host.old (map run_seat running.old)
+        session.old writer.old host.new session.new writer.new) }
     ensures full { OnErr result (R.room writer.old < work running.old session.old) }
 {
     for place in 0..running.len() {
@@ -170,6 +180,8 @@ pub fn run_jobs<H: Host, R: Record>(
         session.old [] host.new running.new session.new steps loss.job loss.errno)) }
     ensures room { IfOk result (λ told. KeepsPace (R.room writer.old) (work running.old session.old)
         (R.room writer.new) (work running.new session.new)) }
+    ensures stopped { OnErr result (Stopped H.does R.wrote R.unwritten host.old (map run_seat running.old)
+        session.old writer.old host.new session.new writer.new) }
     ensures full { OnErr result (R.room writer.old < work running.old session.old) }
 {
     if let Some(loss) = run_schedule(alloc, host, plan, session, running, writer, schedule)? {

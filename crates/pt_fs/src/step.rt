@@ -5,7 +5,7 @@ ghost use Rattle.pt_frame.specs.Deed.{Calls, deed_of};
 ghost use Rattle.pt_frame.specs.Grammar.{is_end};
 ghost use Rattle.pt_frame.specs.declared.act.ActReply.TheVariants as told;
 ghost use Rattle.pt_frame.specs.declared.act.KeptAct.{KeptAct};
-ghost use Rattle.pt_attr.specs.Machine.Job.{owes, is_finished, lost_of};
+ghost use Rattle.pt_job.specs.Machine.Job.{owes, is_finished, lost_of};
 ghost use Rattle.pt_fs.specs.Stepped.{Makes, Stepped};
 ghost use Rattle.pt_fs.specs.Trace.{MadeFrom};
 ghost use Rattle.pt_fs.specs.declared.trace.TraceStep.{TraceStep};
@@ -67,6 +67,7 @@ fn make_wanted<H: Host, R: Record>(
         × Makes H.does (owes plan.now start.now machine.now.state) host.old seat.old session.old act reply.new host.new
         seat.new session.new }
     ensures room { OnOk result (R.room writer.old ≤ R.room writer.new + 1) }
+    ensures unwritten { OnErr result (R.unwritten writer.old writer.new) }
     ensures full { OnErr result (R.room writer.old ≡ 0) }
 {
     match machine.state.want(plan, start) {
@@ -116,6 +117,7 @@ pub fn advance<H: Host, R: Record>(
         machine.new session.new }
     ensures told { IfOk result (λ lost. lost_of machine.old.state ≡ None → lost_of machine.new.state ≡ lost) }
     ensures room { OnOk result (R.room writer.old ≤ R.room writer.new + 1) }
+    ensures unwritten { OnErr result (R.unwritten writer.old writer.new) }
     ensures full { OnErr result (R.room writer.old ≡ 0) }
 {
     let mut reply = ActReply::NoCopy;

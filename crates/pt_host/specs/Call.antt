@@ -1,5 +1,5 @@
 -- Believed. A call as plain data: what it asks, and not where its bytes lie.
-use Rattle.std.specs.Prelude.{◌<◌, length}
+use Rattle.std.specs.Prelude.{◌<◌, [], ◌∷◌, length}
 use Rattle.pt_host.specs.declared.op.HostOp.{HostOp}
 use Rattle.pt_host.specs.declared.op.HostOp.TheVariants as borrowed
 use Rattle.pt_host.specs.declared.op.KeptHostOp.{KeptHostOp}
@@ -56,6 +56,7 @@ call_of (borrowed.ListXattr fd through size) = call.ListXattr fd through size
 call_of (borrowed.RemoveXattr fd through name) = call.RemoveXattr fd through name.now
 -- the seat
 call_of (borrowed.SetGroups list) = call.SetGroups list.now
+call_of (borrowed.SetGroup group) = call.SetGroups (group ∷ [])
 call_of (borrowed.SetEgid gid) = call.SetEgid gid
 call_of (borrowed.SetEuid uid) = call.SetEuid uid
 call_of (borrowed.RaiseCap caps) = call.RaiseCap caps

@@ -6,6 +6,7 @@ use crate::bytes::Bytes;
 use crate::groups::GroupList;
 use crate::op::{HostOp, KeptHostOp};
 use std::alloc::{AllocError, Global};
+use std::slice;
 
 impl<'a> HostOp<'a> {
     /// The same call with bytes of its own.
@@ -49,6 +50,10 @@ impl<'a> HostOp<'a> {
             }
             HostOp::SetGroups { list } => {
                 let list = GroupList::from_slice(alloc, list)?;
+                Ok(KeptHostOp::SetGroups { list })
+            }
+            HostOp::SetGroup { group } => {
+                let list = GroupList::from_slice(alloc, slice::from_ref(group))?;
                 Ok(KeptHostOp::SetGroups { list })
             }
             HostOp::Edit(edit) => {

@@ -215,6 +215,10 @@ pub enum HostOp<'a> {
     SetGroups {
         list: &'a [u32],
     },
+    /// The same, to this group alone.
+    SetGroup {
+        group: u32,
+    },
     /// `setegid(2)`.
     SetEgid {
         gid: u32,

@@ -6,6 +6,7 @@ use crate::ids::Errno;
 use crate::op::HostOp;
 use crate::reply::{HostReply, HostValue};
 use crate::seat::HostSeat;
+use std::slice;
 
 fn reply_of(done: Result<(), Errno>) -> HostReply
     ensures { result ≡ reply_of done }
@@ -25,6 +26,7 @@ impl HostSeat {
     {
         match op {
             HostOp::SetGroups { list } => Some(reply_of(self.set_groups(list))),
+            HostOp::SetGroup { group } => Some(reply_of(self.set_groups(slice::from_ref(group)))),
             HostOp::SetEgid { gid } => Some(reply_of(self.set_egid(*gid))),
             HostOp::SetEuid { uid } => Some(reply_of(self.set_euid(*uid))),
             HostOp::RaiseCap { caps } => Some(reply_of(self.raise_cap(*caps))),

@@ -1,5 +1,5 @@
--- Each request tends its seat, and takes no memory of its own.
-use Rattle.std.proofs.Common.{◌≡◌, ℕ, zero, suc, Bool, true, false, ◌||◌, List, [], ◌∷◌, ◌++◌, refl, sym, subst}
+-- What each step of a request does to its seat, and that none takes memory of its own.
+use Rattle.std.proofs.Common.{◌≡◌, ℕ, zero, suc, Bool, true, false, ◌||◌, List, [], ◌∷◌, refl, sym, subst}
 use Rattle.std.proofs.Common.{Option, Some, None, arith}
 use Rattle.std.specs.Prelude.{◌&&◌, is_some}
 use Rattle.pt_host.specs.Call.{Call}
@@ -9,32 +9,27 @@ use Rattle.pt_host.specs.declared.op.KeptHostOp.TheVariants as call
 use Rattle.pt_host.specs.declared.reply.HostReply.TheVariants as host
 use Rattle.pt_host.specs.declared.reply.HostValue.{HostValue}
 use Rattle.pt_host.specs.declared.seat.HostSeat.{HostSeat}
-use Rattle.pt_creds.specs.Guard.{euid_calls, egid_calls}
 use Rattle.pt_creds.specs.Identity.{override_cap}
-use Rattle.pt_creds.specs.Steps.{id_to_set, group_calls, raise_calls}
+use Rattle.pt_creds.specs.Steps.{id_to_set}
 use Rattle.pt_iface.specs.declared.answer.Answer.TheVariants as answer
-use Rattle.pt_iface.specs.declared.request.Context.{Context}
-use Rattle.pt_iface.specs.declared.request.Request.{Request}
 use Rattle.pt_frame.specs.Deed.{Deed, Calls, Changes, lacks_memory, LacksMemory}
 use Rattle.pt_frame.specs.Past.{is_open, worn_called, worn_after}
 use Rattle.pt_frame.specs.Replies.{closings_in, passes_with}
 use Rattle.pt_frame.specs.Sparing.{IsSparing}
 use Rattle.pt_frame.specs.Tended.{is_seats_sort, is_of_seat, Tends, IsAskedOf, IsAsked, ClosesBare, PassesBare}
 use Rattle.pt_frame.specs.Tended.{IsOpening}
-use Rattle.pt_frame.specs.Tree.{RequestTree, Gives, Refuses, Asks, Opens, Bares, Brackets, Shuts, Allocates}
+use Rattle.pt_frame.specs.Tree.{RequestTree, Gives, Refuses, Asks, Opens, Bares, Brackets, Shuts, Allocates, on}
 use Rattle.pt_frame.specs.declared.act.ActReply.{ActReply}
 use Rattle.pt_frame.specs.declared.act.ActReply.TheVariants.{Host, NoCopy}
 use Rattle.pt_frame.specs.declared.hold.Hold.{Hold}
 use Rattle.pt_frame.specs.declared.hold.Hold.TheVariants as hold
 use Rattle.pt_frame.specs.declared.hold.Taken.TheVariants.{Nothing}
 use Rattle.pt_frame.proofs.Wearing.{wears_same}
-use Rattle.pt_req.specs.Asker.{taken_on}
+use Rattle.pt_req.specs.Asker.{group_set, egid_set, euid_set, cap_raised}
 use Rattle.pt_req.specs.Capability.{fsetid}
-use Rattle.pt_req.specs.Requests.{tree_of}
-use Rattle.pt_req.specs.Steps.{open_scope, on_tried}
-use Rattle.pt_req.specs.declared.plan.Plan.{Plan}
+use Rattle.pt_req.specs.Steps.{open_scope, tried_in}
 use Rattle.pt_req.proofs.Replying.{if_set, if_tried}
-use Rattle.pt_req.proofs.Walking.{InScope, Walk, is_making, of_any, of_any_scopes, each_request}
+use Rattle.pt_req.proofs.Walking.{InScope, Walk, is_making}
 
 closes_bare : (count : ℕ) → ClosesBare Nothing count []
 closes_bare zero = tt
@@ -81,11 +76,11 @@ scopes seat asked scope rest worn is so = (
 module _ (seat : HostSeat) (rest : RequestTree) (any : (worn : List Call) → Tends seat rest worn) where
   on_euid : (worn : List Call) → ((id : ℕ) → is_open (call.SetEuid id) worn ≡ false) →
       ((caps : Caps) → is_open (call.RaiseCap caps) worn ≡ false) → (euid : Option ℕ) (keeps : Bool) →
-      Tends seat (taken_on (euid_calls euid ++ raise_calls (keeps && is_some euid)) rest) worn
+      Tends seat (euid_set euid (cap_raised (keeps && is_some euid) rest)) worn
   on_euid worn shut low None true = any worn
   on_euid worn shut low None false = any worn
   on_euid worn shut low (Some uid) true =
-      scopes seat (call.SetEuid uid) hold.EffectiveUid (taken_on (raise_calls true) rest) worn
+      scopes seat (call.SetEuid uid) hold.EffectiveUid (cap_raised true rest) worn
       (record { own = refl; scoped = refl; shut = shut uid; back = refl }) (
         (tt, low override_cap, omega arith),
         λ told. (
@@ -101,19 +96,18 @@ module _ (seat : HostSeat) (rest : RequestTree) (any : (worn : List Call) → Te
       ((id : ℕ) → is_open (call.SetEuid id) worn ≡ false) →
       ((caps : Caps) → is_open (call.RaiseCap caps) worn ≡ false) →
       (egid euid : Option ℕ) (keeps : Bool) →
-      Tends seat (taken_on (egid_calls egid ++ euid_calls euid ++ raise_calls (keeps && is_some euid)) rest) worn
+      Tends seat (egid_set egid (euid_set euid (cap_raised (keeps && is_some euid) rest))) worn
   on_egid worn first shut low None euid keeps = on_euid worn shut low euid keeps
   on_egid worn first shut low (Some gid) euid keeps = scopes seat (call.SetEgid gid) hold.EffectiveGid
-      (taken_on (euid_calls euid ++ raise_calls (keeps && is_some euid)) rest) worn
+      (euid_set euid (cap_raised (keeps && is_some euid) rest)) worn
       (record { own = refl; scoped = refl; shut = first gid; back = refl })
       (on_euid (call.SetEgid gid ∷ worn) shut low euid keeps)
 
   on_steps : (groups egid euid : Option ℕ) (keeps : Bool) →
-      Tends seat (taken_on (group_calls groups ++ egid_calls egid ++ euid_calls euid
-      ++ raise_calls (keeps && is_some euid)) rest) []
+      Tends seat (group_set groups (egid_set egid (euid_set euid (cap_raised (keeps && is_some euid) rest)))) []
   on_steps None egid euid keeps = on_egid [] (λ id. refl) (λ id. refl) (λ caps. refl) egid euid keeps
   on_steps (Some group) egid euid keeps = scopes seat (call.SetGroups (group ∷ [])) hold.Groups
-      (taken_on (egid_calls egid ++ euid_calls euid ++ raise_calls (keeps && is_some euid)) rest) []
+      (egid_set egid (euid_set euid (cap_raised (keeps && is_some euid) rest))) []
       (record { own = refl; scoped = refl; shut = refl; back = refl })
       (on_egid (call.SetGroups (group ∷ []) ∷ []) (λ id. refl) (λ id. refl) (λ caps. refl) egid euid keeps)
 
@@ -168,7 +162,7 @@ bare seat = record {
   had = λ told tree so. so;
   asks = λ deed next own none may so. plainly seat deed next own so;
   ran_out = λ told deed lacks own none may.
-      plainly seat deed (on_tried (Gives answer.NoMemory)) own
+      plainly seat deed (on tried_in (λ done. Gives answer.NoMemory)) own
       (if_tried (λ later tree. Tends seat tree []) (Gives answer.NoMemory) (λ later. tt) (λ later. (refl, tt)));
   brackets = λ rest so. so;
   shuts = λ passes rest so. (refl, so);
@@ -182,11 +176,6 @@ bare seat = record {
       (record { own = refl; scoped = refl; shut = refl; back = refl })
       (tends_in seat (call.DropCap fsetid ∷ []) NoCopy rest (so NoCopy));
 }
-
-pub requests_tend : (plan : Plan) (seat : HostSeat) (who : Context) (asked : Request) →
-    Tends seat (tree_of plan seat who asked) []
-requests_tend plan seat who asked = each_request (bare seat) plan who asked (of_any plan who asked)
-    (of_any_scopes plan seat asked)
 
 lacks_so : (lacks : Bool) → lacks ≡ true → (lacks || false) ≡ true
 lacks_so true e = refl
@@ -218,30 +207,30 @@ spared_scope asked scope rest so = if_set (λ told tree. IsSparing (lacks_memory
     (λ told. λ lacks. lacks_so (lacks_memory told) lacks) (λ told. so)
 
 module _ (rest : RequestTree) (so : IsSparing false rest) where
-  spares_raise : (raise : Bool) → IsSparing false (taken_on (raise_calls raise) rest)
+  spares_raise : (raise : Bool) → IsSparing false (cap_raised raise rest)
   spares_raise true = if_tried (λ told tree. IsSparing (lacks_memory told || false) tree) rest
       (λ told. λ lacks. lacks_so (lacks_memory told) lacks)
       (λ told. spares_more false (lacks_memory (Host told) || false) (λ e. absurd (cc)) rest so)
   spares_raise false = so
 
   spares_euid : (euid : Option ℕ) (raise : Bool) →
-      IsSparing false (taken_on (euid_calls euid ++ raise_calls raise) rest)
+      IsSparing false (euid_set euid (cap_raised raise rest))
   spares_euid None raise = spares_raise raise
   spares_euid (Some uid) raise =
-      spared_scope (call.SetEuid uid) hold.EffectiveUid (taken_on (raise_calls raise) rest) (spares_raise raise)
+      spared_scope (call.SetEuid uid) hold.EffectiveUid (cap_raised raise rest) (spares_raise raise)
 
   spares_egid : (egid euid : Option ℕ) (raise : Bool) →
-      IsSparing false (taken_on (egid_calls egid ++ euid_calls euid ++ raise_calls raise) rest)
+      IsSparing false (egid_set egid (euid_set euid (cap_raised raise rest)))
   spares_egid None euid raise = spares_euid euid raise
   spares_egid (Some gid) euid raise = spared_scope (call.SetEgid gid) hold.EffectiveGid
-      (taken_on (euid_calls euid ++ raise_calls raise) rest) (spares_euid euid raise)
+      (euid_set euid (cap_raised raise rest)) (spares_euid euid raise)
 
   spares_steps : (groups egid euid : Option ℕ) (raise : Bool) →
-      IsSparing false (taken_on (group_calls groups ++ egid_calls egid ++ euid_calls euid ++ raise_calls raise) rest)
+      IsSparing false (group_set groups (egid_set egid (euid_set euid (cap_raised raise rest))))
   spares_steps None egid euid raise = spares_egid egid euid raise
   spares_steps (Some group) egid euid raise =
       spared_scope (call.SetGroups (group ∷ [])) hold.Groups
-      (taken_on (egid_calls egid ++ euid_calls euid ++ raise_calls raise) rest) (spares_egid egid euid raise)
+      (egid_set egid (euid_set euid (cap_raised raise rest))) (spares_egid egid euid raise)
 
 -- memory that ran out once did so
 out_before : (later lacks : Bool) → lacks ≡ true → (later || (lacks || false)) ≡ true
@@ -290,8 +279,3 @@ in_full seat = record {
   drops = λ rest has so. if_set (λ told tree. IsSparing (lacks_memory told || false) tree) rest
       (λ told. λ lacks. lacks_so (lacks_memory told) lacks) (λ told. spares_in (Host (host.Ok told)) rest (so _));
 }
-
-pub requests_spare : (plan : Plan) (seat : HostSeat) (who : Context) (asked : Request) →
-    IsSparing false (tree_of plan seat who asked)
-requests_spare plan seat who asked = each_request (in_full seat) plan who asked (of_any plan who asked)
-    (of_any_scopes plan seat asked)

@@ -1,11 +1,11 @@
 -- What holds of plain answers and refusals, and passes through each step that is no call on the seat and through a
--- making as whoever asks, holds of every request: none takes memory of its own.
-use Rattle.std.proofs.Common.{◌≡◌, ℕ, Bool, true, false, ◌&&◌, List, [], ◌∷◌, Option, Some, None, refl, sym, subst}
+-- making as whoever asks, holds of each request: none takes memory of its own.
+use Rattle.std.proofs.Common.{◌≡◌, ℕ, Bool, true, false, ◌&&◌, List, Option, Some, None, refl, sym, subst}
 use Rattle.std.proofs.Common.{if◌then◌else◌}
 use Rattle.pt_host.specs.Call.{Call}
 use Rattle.pt_host.specs.Errno.{eperm, ebadf, einval, eopnotsupp, estale, errno_of}
 use Rattle.pt_host.specs.declared.ids.Errno.{Errno}
-use Rattle.pt_host.specs.Flags.{includes, o_creat, o_directory}
+use Rattle.pt_host.specs.Flags.{includes, o_creat}
 use Rattle.pt_host.specs.declared.ids.Fd.{Fd}
 use Rattle.pt_host.specs.declared.ids.ObjIds.{ObjIds}
 use Rattle.pt_host.specs.declared.handle.FileHandle.{FileHandle}
@@ -15,51 +15,51 @@ use Rattle.pt_host.specs.declared.flags.OpenFlags.{OpenFlags}
 use Rattle.pt_host.specs.declared.op.KeptHostOp.TheVariants as call
 use Rattle.pt_host.specs.declared.reply.HostReply.TheVariants as host
 use Rattle.pt_creds.specs.Identity.{Credentials}
-use Rattle.pt_creds.specs.Steps.{cred_steps, calls_of}
+use Rattle.pt_creds.specs.Steps.{cred_steps}
 use Rattle.pt_session.specs.declared.form.RowForm.{RowForm}
 use Rattle.pt_session.specs.declared.form.RowForm.TheVariants.{File}
 use Rattle.pt_session.specs.declared.form.Negotiated.{Negotiated}
 use Rattle.pt_session.specs.declared.event.KeptEvent.TheVariants as change
 use Rattle.pt_iface.specs.declared.answer.Answer.{Answer}
 use Rattle.pt_iface.specs.declared.answer.Answer.TheVariants as answer
-use Rattle.pt_iface.specs.declared.entry.Entry.{Entry}
+use Rattle.pt_iface.specs.declared.flags.FsOptions.{FsOptions}
 use Rattle.pt_iface.specs.declared.request.Context.{Context}
-use Rattle.pt_iface.specs.declared.request.Request.{Request}
-use Rattle.pt_iface.specs.declared.request.Request.TheVariants as request
 use Rattle.pt_iface.specs.declared.request.SecContext.{SecContext}
 use Rattle.pt_frame.specs.Deed.{Deed, Calls, Changes, lacks_memory}
-use Rattle.pt_frame.specs.Replies.{is_cut, closings_in, passes_with}
+use Rattle.pt_frame.specs.Replies.{bytes_of, is_cut, closings_in, passes_with}
 use Rattle.pt_frame.specs.Sparing.{IsNoMemory}
 use Rattle.pt_frame.specs.Tended.{is_of_seat}
-use Rattle.pt_frame.specs.Tree.{RequestTree, Gives, Refuses, Asks, Opens, Bares, Brackets, Shuts, Allocates}
+use Rattle.pt_frame.specs.Tree.{RequestTree, Gives, Refuses, Asks, Opens, Bares, Brackets, Shuts, Allocates, on}
 use Rattle.pt_frame.specs.declared.act.ActReply.{ActReply}
 use Rattle.pt_frame.specs.declared.act.ActReply.TheVariants.{Event, Host, NoCopy}
-use Rattle.pt_frame.specs.declared.hold.Hold.{Hold}
 use Rattle.pt_session.specs.Tables.{nothing_agreed}
-use Rattle.pt_req.specs.Options.{cleaned, inode_flags, with_bits, agreed_with, init_options, open_options}
+use Rattle.pt_req.specs.Options.{cleaned, inode_flags, agreed_with, init_options, open_options}
 use Rattle.pt_req.specs.Options.{making_flags, create_options, without_nofollow}
-use Rattle.pt_req.specs.Steps.{session_of, Resolved, on_began, on_cleared, on_resolved, on_fd, on_stat, on_bytes}
-use Rattle.pt_req.specs.Steps.{on_claim, on_taken, on_drawn, on_inserted, on_root, on_handle, on_pinned, on_done}
-use Rattle.pt_req.specs.Steps.{begin, clear, resolve, open_root, open_at, reopen, stat, read_at, claim, take_fd}
+use Rattle.pt_req.specs.Steps.{session_of, resolved_of, began_in, cleared_in, resolved_in, fd_in, tried_in, made_in}
+use Rattle.pt_req.specs.Steps.{stat_in, refused_in, claimed_in, taken_in, drawn_in, numbered_in, inserted_in, pinned_in}
+use Rattle.pt_req.specs.Steps.{done_in, begin, clear, resolve, open_root, open_at, reopen, stat, read_at, claim}
+use Rattle.pt_req.specs.Steps.{take_fd}
 use Rattle.pt_req.specs.Steps.{draw_node, draw_handle, insert, insert_root, insert_handle, pin_handle, forget_all}
-use Rattle.pt_req.specs.Steps.{release_handle, on_tried, make_at, on_made, on_ok_or}
+use Rattle.pt_req.specs.Steps.{release_handle, or_refused}
 use Rattle.pt_req.specs.Attributes.{is_blocked}
 use Rattle.pt_req.specs.Capability.{fsetid, drops_fsetid, without_fsetid}
 use Rattle.pt_req.specs.Entries.{is_bad_name, is_bad_offset, can_open}
-use Rattle.pt_req.specs.Parts.{by_path, file_of, open_form, numbered, looked_of}
-use Rattle.pt_req.specs.Parts.{look_up, handled_num, open_inode, open_num, root_open}
+use Rattle.pt_req.specs.Parts.{by_path, named, placed, file_of, open_form, open_row, numbered_as, numbered, looked_of}
+use Rattle.pt_req.specs.Parts.{look_up, handled, open_inode, open_num, root_open}
 use Rattle.pt_req.specs.Asker.{taken_on, as_asker, asker_of}
-use Rattle.pt_req.specs.Creating.{are_same, handled, undone, labelled, named_handle, new_file, old_file, takes_old}
-use Rattle.pt_req.specs.Requests.{batch_forget, open_file, release, create, file_asked, unserved}
-use Rattle.pt_req.specs.Requests.{tree_of}
+use Rattle.pt_req.specs.Creating.{FileAsked, are_same, if_same, undone, label_set, labelled, named_handle, new_file}
+use Rattle.pt_req.specs.Creating.{old_file, made_file, make_file, takes_old}
+use Rattle.pt_req.specs.Requests.{init, destroy, root, lookup, batch_forget, open_file, release, read, create}
+use Rattle.pt_req.specs.Requests.{unserved}
 use Rattle.pt_req.specs.declared.begun.BegunSession.{BegunSession}
-use Rattle.pt_req.specs.declared.parts.asked.FileAsked.{FileAsked}
 use Rattle.pt_req.specs.declared.parts.asked.NamedHandle.{NamedHandle}
 use Rattle.pt_req.specs.declared.parts.looked.Looked.{Looked}
 use Rattle.pt_req.specs.declared.plan.Plan.{Plan}
+use Rattle.pt_req.specs.declared.replies.Resolved.{Resolved}
 use Rattle.pt_req.proofs.Flags.{creates as creates_file}
 use Rattle.pt_req.proofs.Replying.{if_began, if_cleared, if_resolved, if_fd, if_stat, if_bytes, if_claimed, if_taken}
-use Rattle.pt_req.proofs.Replying.{if_made, if_ok_or, if_tried, if_drawn, if_inserted, if_root, if_handle, if_pinned, if_done}
+use Rattle.pt_req.proofs.Replying.{if_made, if_refused, if_tried, if_drawn, if_numbered, if_inserted, if_pinned}
+use Rattle.pt_req.proofs.Replying.{if_done}
 
 -- an answer that is neither given up nor cut
 abbrev pub IsPlain : Answer → Type 0
@@ -120,14 +120,14 @@ pub record Walk
       OfDeed D false deed → ((told : ActReply) → R told (next told)) → Q (Asks deed next)
   -- memory ran out, and that is answered behind one more deed
   pub ran_out : (told : ActReply) (deed : Deed) → lacks_memory told ≡ true → is_of_seat deed ≡ false →
-      is_making deed ≡ false → OfDeed D false deed → R told (Asks deed (on_tried (Gives answer.NoMemory)))
+      is_making deed ≡ false → OfDeed D false deed → R told (Asks deed (on tried_in (λ done. Gives answer.NoMemory)))
   pub brackets : (rest : RequestTree) → Q rest → Q (Brackets rest)
   pub shuts : (passes : Bool) (rest : RequestTree) → Q rest → Q (Shuts passes rest)
   -- a bracket ends behind a reply
   pub shuts_after : (told : ActReply) (passes : Bool) (rest : RequestTree) → R told rest → R told (Shuts passes rest)
   pub makes_as : (creds : Credentials) (making : Call) (next : ActReply → RequestTree) →
       is_making (Calls making) ≡ true → M creds → ((told : ActReply) → R told (next told)) →
-      Q (taken_on (calls_of (cred_steps creds seat)) (Asks (Calls making) (λ told. Bares (next told))))
+      Q (taken_on (cred_steps creds seat) (Asks (Calls making) (λ told. Bares (next told))))
   -- no scope is open
   pub bares : (rest : RequestTree) → Q rest → Q (Bares rest)
   -- the capability is dropped, which is effective
@@ -139,15 +139,6 @@ abbrev pub OfAsker : (Credentials → Type 0) → Plan → Context → Option �
 OfAsker M plan who group =
     (session : BegunSession) (creds : Credentials) → asker_of plan session who group ≡ Some creds → M creds
 
--- and so of each making of a request
-abbrev pub OfMakings : (Credentials → Type 0) → Plan → Context → Request → Type 0
-OfMakings M plan who (request.Create parent name mode kill flags umask ext) = OfAsker M plan who ext.sup_gid
-OfMakings M plan who asked = Unit {0}
-
-pub of_any : (plan : Plan) (who : Context) (asked : Request) → OfMakings (λ creds. Unit {0}) plan who asked
-of_any plan who (request.Create parent name mode kill flags umask ext) = λ session creds e. tt
-of_any plan who asked = tt
-
 -- what has to hold of each opening of a request
 abbrev pub OfOpening : (Bool → Deed → Type 0) → Bool → Type 0
 OfOpening D dropped = (fd : Fd) (how : OpenFlags) → D dropped (Calls (call.Reopen fd how))
@@ -156,25 +147,6 @@ OfOpening D dropped = (fd : Fd) (how : OpenFlags) → D dropped (Calls (call.Reo
 abbrev pub OfRoot : (Bool → Deed → Type 0) → Option Negotiated → Type 0
 OfRoot D said =
     (era : ℕ) (form : RowForm) (ids : ObjIds) (mode : ℕ) → D false (Changes (change.InsertRoot era form ids mode said))
-
--- of each of these
-abbrev pub OfScopes : (Bool → Deed → Type 0) → Plan → HostSeat → Request → Type 0
-OfScopes D plan seat (request.Init capable) = OfRoot D (Some (agreed_with plan.config capable))
-OfScopes D plan seat request.Root = OfRoot D None
-OfScopes D plan seat (request.Open inode kill flags) = OfOpening D (drops_fsetid plan seat kill)
-OfScopes D plan seat (request.OpenDir inode flags) = OfOpening D (drops_fsetid plan seat false)
-OfScopes D plan seat (request.Create parent name mode kill flags umask ext) =
-    OfOpening D (drops_fsetid plan seat kill)
-OfScopes D plan seat asked = Unit {0}
-
-pub of_any_scopes : (plan : Plan) (seat : HostSeat) (asked : Request) →
-    OfScopes (λ dropped asked. Unit {0}) plan seat asked
-of_any_scopes plan seat (request.Init capable) = λ era form ids mode. tt
-of_any_scopes plan seat request.Root = λ era form ids mode. tt
-of_any_scopes plan seat (request.Open inode kill flags) = λ fd how. tt
-of_any_scopes plan seat (request.OpenDir inode flags) = λ fd how. tt
-of_any_scopes plan seat (request.Create parent name mode kill flags umask ext) = λ fd how. tt
-of_any_scopes plan seat asked = tt
 
 -- under a scope a number is looked up
 module _ (D : Bool → Deed → Type 0) (dropped : Bool) (Q : RequestTree → Type 0) where
@@ -186,7 +158,7 @@ module _ (D : Bool → Deed → Type 0) (dropped : Bool) (Q : RequestTree → Ty
     tt,
     closes,
     if_resolved (InScope D dropped Q) next (λ later. refl)
-        (λ row form ids mode. so (record { row = row; form = form; ids = ids; mode = mode }) _),
+        (λ row form ids mode. so (resolved_of row form ids mode) _),
   )
     where
       closes : (later : ActReply) → closings_in (Changes (change.Resolve number)) later ≡ 0
@@ -211,6 +183,12 @@ module _ (D : Bool → Deed → Type 0) (dropped : Bool) (Q : RequestTree → Ty
     if_fd (InScope D dropped Q) (λ fd. Bares (next fd)) (λ later. refl) so,
   )
 
+  pub in_opens_row : (row : Resolved) (flags : ℕ) (next : Fd → RequestTree) → OfOpening D dropped →
+      ((fd : Fd) → Q (next fd)) → Scoped D dropped Q (open_row row flags (λ fd. Bares (next fd)))
+  unfolding open_row
+  in_opens_row row flags next may so =
+      in_checked (can_open row.mode) _ ebadf (in_opens_form row.form flags next may so)
+
 third : (one other last : Bool) → (one && other && last) ≡ true → last ≡ true
 third true true last e = e
 third true false last e = absurd (cc)
@@ -225,92 +203,92 @@ module _
     (w : Walk seat M D Q R)
   where
     pub begins : (next : BegunSession → RequestTree) → ((session : BegunSession) → Q (next session)) → Q (begin next)
-    begins next so = w.asks (Changes change.Begin) (on_began next) refl refl tt
+    begins next so = w.asks (Changes change.Begin) (on began_in next) refl refl tt
         (if_began R next w.refuses (λ era agreed. w.had _ _ (so (session_of era agreed))))
 
     pub clears : (next : ℕ → RequestTree) → ((era : ℕ) → Q (next era)) → Q (clear next)
-    clears next so = w.asks (Changes change.Clear) (on_cleared next) refl refl tt
+    clears next so = w.asks (Changes change.Clear) (on cleared_in next) refl refl tt
         (if_cleared R next w.refuses (λ era closings. w.had _ _ (so era)))
 
     pub resolves : (number : ℕ) (next : Resolved → RequestTree) → ((row : Resolved) → Q (next row)) →
         Q (resolve number next)
-    resolves number next so = w.asks (Changes (change.Resolve number)) (on_resolved next) refl refl tt
+    resolves number next so = w.asks (Changes (change.Resolve number)) (on resolved_in next) refl refl tt
         (if_resolved R next w.refuses (λ row form ids mode.
-        w.had _ _ (so (record { row = row; form = form; ids = ids; mode = mode }))))
+        w.had _ _ (so (resolved_of row form ids mode))))
 
     pub opens_root : (dir : List ℕ) (flags : OpenFlags) (next : Fd → RequestTree) → ((fd : Fd) → Q (next fd)) →
         Q (open_root dir flags next)
-    opens_root dir flags next so = w.asks (Calls (call.OpenRoot dir flags)) (on_fd next) refl refl refl
+    opens_root dir flags next so = w.asks (Calls (call.OpenRoot dir flags)) (on fd_in next) refl refl refl
         (if_fd R next w.refuses (λ fd. w.had _ _ (so fd)))
 
     pub opens_at : (dir : Fd) (name : List ℕ) (flags : OpenFlags) (next : Fd → RequestTree) →
         includes flags.0 o_creat ≡ false → ((fd : Fd) → Q (next fd)) → Q (open_at dir name flags next)
-    opens_at dir name flags next none so = w.asks (Calls (call.OpenAt dir name flags 0)) (on_fd next) refl none refl
+    opens_at dir name flags next none so = w.asks (Calls (call.OpenAt dir name flags 0)) (on fd_in next) refl none refl
         (if_fd R next w.refuses (λ fd. w.had _ _ (so fd)))
 
     pub reopens : (fd : Fd) (flags : OpenFlags) (next : Fd → RequestTree) → D false (Calls (call.Reopen fd flags)) →
         ((fd : Fd) → Q (next fd)) → Q (reopen fd flags next)
-    reopens fd flags next may so = w.asks (Calls (call.Reopen fd flags)) (on_fd next) refl refl may
+    reopens fd flags next may so = w.asks (Calls (call.Reopen fd flags)) (on fd_in next) refl refl may
         (if_fd R next w.refuses (λ fd. w.had _ _ (so fd)))
 
     pub stats : (fd : Fd) (next : Stat → RequestTree) → ((told : Stat) → Q (next told)) → Q (stat fd next)
-    stats fd next so = w.asks (Calls (call.Stat fd)) (on_stat next) refl refl refl
+    stats fd next so = w.asks (Calls (call.Stat fd)) (on stat_in next) refl refl refl
         (if_stat R next w.refuses (λ told. w.had _ _ (so told)))
 
     pub reads_at : (fd : Fd) (offset size : ℕ) (next : List ℕ → RequestTree) → ((bytes : List ℕ) → Q (next bytes)) →
         Q (read_at fd offset size next)
-    reads_at fd offset size next so = w.asks (Calls (call.ReadAt fd offset size)) (on_bytes next) refl refl refl
+    reads_at fd offset size next so = w.asks (Calls (call.ReadAt fd offset size)) (on bytes_of next) refl refl refl
         (if_bytes R next w.refuses (λ bytes. w.had _ _ (so bytes)))
 
-    pub claims : (session : BegunSession) (handle : Option FileHandle) (ids : ObjIds)
-        (next : ℕ → RequestTree) (absent : RequestTree) →
-        ((number : ℕ) → Q (next number)) → Q absent → Q (claim session handle ids next absent)
-    claims session handle ids next absent so other =
-        w.asks (Changes (change.Claim session.era handle ids)) (on_claim next absent) refl refl tt
-        (if_claimed R next absent w.refuses (λ number. w.had _ _ (so number)) (w.had _ _ other))
+    pub claims : (session : BegunSession) (handle : Option FileHandle) (ids : ObjIds) (next : Option ℕ → RequestTree) →
+        ((given : Option ℕ) → Q (next given)) → Q (claim session handle ids next)
+    claims session handle ids next so =
+        w.asks (Changes (change.Claim session.era handle ids)) (on claimed_in next) refl refl tt
+        (if_claimed R next w.refuses (λ number. w.had _ _ (so (Some number))) (w.had _ _ (so None)))
 
     pub takes : (next : RequestTree) → Q next → Q (take_fd next)
-    takes next so = w.asks (Changes change.TakeFd) (on_taken next) refl refl tt
+    takes next so = w.asks (Changes change.TakeFd) (on taken_in (λ done. next)) refl refl tt
         (if_taken R next w.refuses (w.had _ _ so))
 
     pub draws_node : (next : ℕ → RequestTree) → ((number : ℕ) → Q (next number)) → Q (draw_node next)
-    draws_node next so = w.asks (Changes change.DrawNode) (on_drawn next) refl refl tt
+    draws_node next so = w.asks (Changes change.DrawNode) (on drawn_in next) refl refl tt
         (if_drawn R next w.refuses (λ number. w.had _ _ (so number)))
 
     pub draws_handle : (next : ℕ → RequestTree) → ((number : ℕ) → Q (next number)) → Q (draw_handle next)
-    draws_handle next so = w.asks (Changes change.DrawHandle) (on_drawn next) refl refl tt
+    draws_handle next so = w.asks (Changes change.DrawHandle) (on drawn_in next) refl refl tt
         (if_drawn R next w.refuses (λ number. w.had _ _ (so number)))
 
     pub inserts : (session : BegunSession) (fresh : ℕ) (form : RowForm) (told : Stat) (next : ℕ → RequestTree) →
         ((number : ℕ) → Q (next number)) → Q (insert session fresh form told next)
     inserts session fresh form told next so =
-        w.asks (Changes (change.Insert session.era fresh form told.ids told.mode)) (on_inserted next) refl refl tt
-        (if_inserted R next w.refuses (λ number. w.had _ _ (so number)) (λ number. w.had _ _ (so number)))
+        w.asks (Changes (change.Insert session.era fresh form told.ids told.mode)) (on numbered_in next) refl refl tt
+        (if_numbered R next w.refuses (λ number. w.had _ _ (so number)) (λ number. w.had _ _ (so number)))
 
     pub inserts_root : (session : BegunSession) (form : RowForm) (told : Stat) (agreed : Option Negotiated)
         (next : RequestTree) → OfRoot D agreed → Q next → Q (insert_root session form told agreed next)
     inserts_root session form told agreed next may so =
-        w.asks (Changes (change.InsertRoot session.era form told.ids told.mode agreed)) (on_root next) refl refl
-        (may session.era form told.ids told.mode)
-        (if_root R next w.refuses (λ number. w.had _ _ so))
+        w.asks (Changes (change.InsertRoot session.era form told.ids told.mode agreed)) (on inserted_in (λ done. next))
+        refl refl (may session.era form told.ids told.mode)
+        (if_inserted R next w.refuses (λ number. w.had _ _ so))
 
     pub inserts_handle : (session : BegunSession) (handle number : ℕ) (fd : Fd) (next : RequestTree) → Q next →
         Q (insert_handle session handle number fd next)
     inserts_handle session handle number fd next so =
-        w.asks (Changes (change.InsertHandle session.era handle number fd)) (on_handle next) refl refl tt
-        (if_handle R next w.refuses (λ handle. w.had _ _ so))
+        w.asks (Changes (change.InsertHandle session.era handle number fd)) (on inserted_in (λ done. next)) refl refl tt
+        (if_inserted R next w.refuses (λ handle. w.had _ _ so))
 
     pub pins : (handle number : ℕ) (next : Fd → RequestTree) → ((fd : Fd) → Q (next fd)) →
         Q (pin_handle handle number next)
-    pins handle number next so = w.asks (Changes (change.PinHandle handle number)) (on_pinned next) refl refl tt
+    pins handle number next so = w.asks (Changes (change.PinHandle handle number)) (on pinned_in next) refl refl tt
         (if_pinned R next w.refuses (λ row fd. w.had _ _ (so fd)))
 
     pub forgets : (list : List (ℕ × ℕ)) (next : RequestTree) → Q next → Q (forget_all list next)
-    forgets list next so = w.asks (Changes (change.Forget list)) (on_done next) refl refl tt
+    forgets list next so = w.asks (Changes (change.Forget list)) (on done_in (λ done. next)) refl refl tt
         (if_done R next w.refuses (λ closings. w.had _ _ so))
 
     pub releases : (handle number : ℕ) (next : RequestTree) → Q next → Q (release_handle handle number next)
-    releases handle number next so = w.asks (Changes (change.Release handle number)) (on_done next) refl refl tt
+    releases handle number next so =
+        w.asks (Changes (change.Release handle number)) (on done_in (λ done. next)) refl refl tt
         (if_done R next w.refuses (λ closings. w.had _ _ so))
 
     -- a check refuses at once
@@ -331,24 +309,32 @@ module _
         ((fd : Fd) → Q (next fd)) → Q (open_form form flags next)
     opens_form (File fd) flags next may so = reopens fd _ next (may fd _) so
 
+    pub opens_row : (row : Resolved) (flags : ℕ) (next : Fd → RequestTree) → OfOpening D false →
+        ((fd : Fd) → Q (next fd)) → Q (open_row row flags next)
+    unfolding open_row
+    opens_row row flags next may so =
+        checked (can_open row.mode) _ _ (opens_form row.form flags next may so)
+        (w.gives (answer.Refused ebadf) (refl, λ out. out))
+
     pub opens_inode : (plan : Plan) (session : BegunSession) (number flags : ℕ) (next : Fd → RequestTree) →
         OfOpening D false → ((fd : Fd) → Q (next fd)) → Q (open_inode plan session number flags next)
     opens_inode plan session number flags next may so =
-        resolves number _ (λ row.
-        checked (can_open row.mode) _ _ (
-        opens_form row.form (inode_flags plan.config session.agreed flags) next may so)
-        (w.gives (answer.Refused ebadf) (refl, λ out. out)))
+        resolves number _ (λ row. opens_row row (inode_flags plan.config session.agreed flags) next may so)
+
+    numbers_as : (session : BegunSession) (form : RowForm) (told : Stat) (given : Option ℕ) (next : ℕ → RequestTree) →
+        ((number : ℕ) → Q (next number)) → Q (numbered_as session form told given next)
+    numbers_as session form told None next so =
+        takes _ (draws_node _ (λ fresh. inserts session fresh form told next so))
+    numbers_as session form told (Some number) next so = so number
 
     pub numbers : (session : BegunSession) (form : RowForm) (told : Stat) (next : ℕ → RequestTree) →
         ((number : ℕ) → Q (next number)) → Q (numbered session form told next)
     numbers session form told next so =
-        claims session None told.ids next _ so (
-        takes _ (
-        draws_node _ (λ fresh.
-        inserts session fresh form told next so)))
+        claims session None told.ids _ (λ given. numbers_as session form told given next so)
 
     pub looks_up : (plan : Plan) (session : BegunSession) (parent : ℕ) (name : List ℕ) (next : Looked → RequestTree) →
         ((looked : Looked) → Q (next looked)) → Q (look_up plan session parent name next)
+    unfolding look_up
     looks_up plan session parent name next so =
         w.brackets _ (
         resolves parent _ (λ directory.
@@ -356,10 +342,22 @@ module _
         opens_at dir name by_path _ refl (λ fd.
         stats fd _ (λ told.
         numbers session (File fd) told _ (λ number.
-        w.shuts true _ (so (looked_of plan session directory.ids told (File fd) number))))))))
+        w.shuts true _ (so (looked_of plan session directory.ids told number))))))))
 
     pub refuses_so : (errno : Errno) → Q (Gives (answer.Refused errno))
     refuses_so errno = w.gives (answer.Refused errno) (refl, λ out. out)
+
+    pub names : (name : List ℕ) (next : RequestTree) → Q next → Q (named name next)
+    unfolding named
+    names name next so = checks (is_bad_name name) _ _ (refuses_so einval) so
+
+    pub places : (offset : ℕ) (next : RequestTree) → Q next → Q (placed offset next)
+    unfolding placed
+    places offset next so = checks (is_bad_offset offset) _ _ (refuses_so einval) so
+
+    pub is_same : (made found : ObjIds) (next : RequestTree) → Q next → Q (if_same made found next)
+    unfolding if_same
+    is_same made found next so = checked (are_same made found) _ _ so (refuses_so estale)
 
     -- what holds under a scope holds under none
     behind_reply : (told : ActReply) (tree : RequestTree) → InScope D false Q told tree → R told tree
@@ -399,13 +397,10 @@ module _
         either true has so = w.drops rest (has refl) so
         either false has so = unscoped rest so
 
-    pub handles_num : (session : BegunSession) (number : ℕ) (next : ℕ → RequestTree) (fd : Fd) →
-        ((handle : ℕ) → Q (next handle)) → Q (handled_num session number next fd)
-    handles_num session number next fd so =
-        draws_handle _ (λ handle.
-        takes _ (
-        inserts_handle session handle number fd _ (
-        w.shuts false _ (so handle))))
+    pub handles : (session : BegunSession) (number : ℕ) (fd : Fd) (next : ℕ → RequestTree) →
+        ((handle : ℕ) → Q (next handle)) → Q (handled session number fd next)
+    handles session number fd next so =
+        draws_handle _ (λ handle. takes _ (inserts_handle session handle number fd _ (so handle)))
 
     pub opens_num : (plan : Plan) (session : BegunSession) (number : ℕ) (kill : Bool) (flags : ℕ)
         (next : ℕ → RequestTree) → OfOpening D (drops_fsetid plan seat kill) → ((handle : ℕ) → Q (next handle)) →
@@ -415,9 +410,9 @@ module _
         w.brackets _ (
         drops_if plan kill _ (
         in_resolves D dropped Q number _ (λ row.
-        in_checked D dropped Q (can_open row.mode) _ ebadf (
-        in_opens_form D dropped Q row.form (inode_flags plan.config session.agreed (cleaned plan.config flags))
-        (handled_num session number next) may (λ fd. handles_num session number next fd so)))))
+        in_opens_row D dropped Q row (inode_flags plan.config session.agreed (cleaned plan.config flags))
+        (λ fd. handled session number fd (λ handle. Shuts false (next handle))) may (λ fd.
+        handles session number fd _ (λ handle. w.shuts false _ (so handle))))))
 
     pub opens_shared : (plan : Plan) (session : BegunSession) (agreed : Option Negotiated) (next : RequestTree) →
         OfRoot D agreed → Q next → Q (root_open plan session agreed next)
@@ -427,13 +422,6 @@ module _
         takes _ (
         inserts_root session (File fd) told agreed next may so)))
 
-    pub opens : (plan : Plan) (inode : ℕ) (kill : Bool) (flags : ℕ) → OfOpening D (drops_fsetid plan seat kill) →
-        Q (open_file plan seat inode kill flags)
-    opens plan inode kill flags may =
-        begins _ (λ session.
-        opens_num plan session inode kill flags _ may (λ handle.
-        w.gives (answer.Opened handle (open_options plan.config flags)) (refl, λ out. out)))
-
     -- as whoever asks, whose ids may be forbidden
     pub makes : (asker : Option Credentials) (making : Call) (next : ActReply → RequestTree) →
         is_making (Calls making) ≡ true → ((creds : Credentials) → asker ≡ Some creds → M creds) →
@@ -442,111 +430,125 @@ module _
     makes None making next is may so = refuses_so eperm
     makes (Some creds) making next is may so = w.makes_as creds making next is (may creds refl) so
 
-    pub makes_file : (asker : Option Credentials) (dir : Fd) (name : List ℕ) (flags mode : ℕ)
-        (next : Fd → RequestTree) (may_be : Bool) (there : RequestTree) →
-        ((creds : Credentials) → asker ≡ Some creds → M creds) → ((fd : Fd) → Q (next fd)) → Q there →
-        Q (as_asker seat asker (make_at dir name (making_flags flags) mode next may_be there))
-    makes_file asker dir name flags mode next may_be there may so other =
-        makes asker (call.OpenAt dir name (making_flags flags) mode) (on_made next may_be there)
-        (creates_file flags) may (if_made R next may_be there w.refuses (λ fd. w.had _ _ (so fd))
-        (λ errno. w.had _ _ other) (λ errno. w.had _ _ other))
-
-    pub handles : (session : BegunSession) (fd : Fd) (entry : Entry) (next : NamedHandle → RequestTree) →
-        ((named : NamedHandle) → Q (next named)) → Q (handled session fd entry next)
-    handles session fd entry next so =
-        draws_handle _ (λ handle.
-        takes _ (
-        inserts_handle session handle entry.inode fd _ (so (named_handle entry handle))))
-
     -- a refusal behind one more call, which the host may refuse
     pub undoes : (undoing : Call) (errno : Errno) → is_of_seat (Calls undoing) ≡ false →
         is_making (Calls undoing) ≡ false → OfDeed D false (Calls undoing) →
         Q (undone undoing (answer.Refused errno))
     undoes undoing errno own none may =
-        w.asks (Calls undoing) (on_tried (Gives (answer.Refused errno))) own none may
+        w.asks (Calls undoing) (on tried_in (λ done. Gives (answer.Refused errno))) own none may
         (if_tried R (Gives (answer.Refused errno)) w.refuses (λ told. w.had _ _ (refuses_so errno)))
+
+    pub sets_label : (session : BegunSession) (fd : Fd) (undoing : Call) (label : SecContext)
+        (next : RequestTree) → is_of_seat (Calls undoing) ≡ false → is_making (Calls undoing) ≡ false →
+        OfDeed D false (Calls undoing) → Q next → Q (label_set session fd undoing label next)
+    unfolding label_set
+    sets_label session fd undoing label next own none may so =
+        checks (is_blocked session.agreed label.name) _ _ (undoes undoing eopnotsupp own none may)
+        (w.asks (Calls (call.SetXattr fd false label.name label.value 0))
+        (on refused_in (or_refused (undone undoing) next)) refl refl refl
+        (if_refused R (or_refused (undone undoing) next) w.refuses (λ told. w.had _ _ so)
+        (λ errno. w.had _ _ (undoes undoing errno own none may))
+        (λ errno. w.had _ _ (undoes undoing errno own none may))
+        (w.ran_out (Host host.NoMemory) (Calls undoing) refl own none may)
+        (w.ran_out NoCopy (Calls undoing) refl own none may)))
 
     pub labels : (session : BegunSession) (fd : Fd) (undoing : Call) (label : Option SecContext)
         (next : RequestTree) → is_of_seat (Calls undoing) ≡ false → is_making (Calls undoing) ≡ false →
         OfDeed D false (Calls undoing) → Q next → Q (labelled session fd undoing label next)
     labels session fd undoing None next own none may so = so
     labels session fd undoing (Some label) next own none may so =
-        checks (is_blocked session.agreed label.name) _ _ (undoes undoing eopnotsupp own none may)
-        (w.asks (Calls (call.SetXattr fd false label.name label.value 0)) (on_ok_or (undone undoing) next) refl refl
-        refl
-        (if_ok_or R (undone undoing) next w.refuses (λ told. w.had _ _ so)
-        (λ errno. w.had _ _ (undoes undoing errno own none may))
-        (λ errno. w.had _ _ (undoes undoing errno own none may))
-        (w.ran_out (Host host.NoMemory) (Calls undoing) refl own none may)
-        (w.ran_out NoCopy (Calls undoing) refl own none may)))
+        sets_label session fd undoing label next own none may so
 
     pub news : (plan : Plan) (session : BegunSession) (asked : FileAsked) (dir fd : Fd)
         (next : NamedHandle → RequestTree) → ((named : NamedHandle) → Q (next named)) →
         Q (new_file plan session asked dir fd next)
+    unfolding new_file
     news plan session asked dir fd next so =
         stats fd _ (λ made.
-        labels session fd (call.Unlink dir asked.name) asked.secctx _ refl refl refl (
+        labels session fd (call.Unlink dir asked.name) asked.ext.secctx _ refl refl refl (
         looks_up plan session asked.parent asked.name _ (λ looked.
-        checked (are_same made.ids looked.ids) _ _ (handles session fd looked.entry next so) (refuses_so estale))))
+        is_same made.ids looked.ids _ (
+        handles session looked.entry.inode fd _ (λ handle. so (named_handle looked.entry handle))))))
 
     pub olds : (plan : Plan) (session : BegunSession) (asked : FileAsked) (next : NamedHandle → RequestTree) →
         OfOpening D (drops_fsetid plan seat asked.kill) → ((named : NamedHandle) → Q (next named)) →
         Q (old_file plan seat session asked next)
+    unfolding old_file
     olds plan session asked next may so =
         looks_up plan session asked.parent asked.name _ (λ looked.
         opens_num plan session looked.entry.inode asked.kill asked.flags _ may
         (λ handle. so (named_handle looked.entry handle)))
 
-    pub creates : (plan : Plan) (asked : FileAsked) → OfAsker M plan asked.who asked.sup_gid →
-        OfOpening D (drops_fsetid plan seat asked.kill) → Q (create plan seat asked)
+    pub makes_file : (plan : Plan) (session : BegunSession) (asked : FileAsked) (dir : Fd)
+        (next : NamedHandle → RequestTree) →
+        ((creds : Credentials) → asker_of plan session asked.who asked.ext.sup_gid ≡ Some creds → M creds) →
+        OfOpening D (drops_fsetid plan seat asked.kill) → ((named : NamedHandle) → Q (next named)) →
+        Q (make_file plan seat session asked dir next)
+    unfolding make_file
+    makes_file plan session asked dir next may opening so =
+        makes (asker_of plan session asked.who asked.ext.sup_gid)
+        (call.OpenAt dir asked.name (making_flags asked.flags) asked.mode)
+        (on (made_in (takes_old asked.flags)) (λ made. made_file plan seat session asked dir made next))
+        (creates_file asked.flags) may
+        (if_made R (λ made. made_file plan seat session asked dir made next) (takes_old asked.flags) w.refuses
+        (λ fd. w.had _ _ (news plan session asked dir fd next so))
+        (λ errno. w.had _ _ (olds plan session asked next opening so))
+        (λ errno. w.had _ _ (olds plan session asked next opening so)))
+
+    -- the requests
+    pub inits : (plan : Plan) (capable : FsOptions) → OfRoot D (Some (agreed_with plan.config capable)) →
+        Q (init plan capable)
+    inits plan capable may =
+        clears _ (λ era.
+        opens_shared plan (session_of era nothing_agreed) (Some (agreed_with plan.config capable)) _ may (
+        w.gives (answer.Inited (init_options plan.config capable)) (refl, λ out. out)))
+
+    pub destroys : Q destroy
+    destroys = clears _ (λ era. w.gives answer.NoReply (refl, λ out. out))
+
+    pub shares_root : (plan : Plan) → OfRoot D None → Q (begin (root plan))
+    shares_root plan may =
+        begins _ (λ session. opens_shared plan session None _ may (w.gives answer.Done (refl, λ out. out)))
+
+    pub looks_up_name : (plan : Plan) (parent : ℕ) (name : List ℕ) → Q (begin (lookup plan parent name))
+    looks_up_name plan parent name =
+        begins _ (λ session.
+        names name _ (
+        looks_up plan session parent name _ (λ looked. w.gives (answer.Entry looked.entry) (refl, λ out. out))))
+
+    pub forgets_all : (list : List (ℕ × ℕ)) → Q (begin (batch_forget list))
+    forgets_all list = begins _ (λ session. forgets list _ (w.gives answer.NoReply (refl, λ out. out)))
+
+    pub opens : (plan : Plan) (inode : ℕ) (kill : Bool) (flags : ℕ) → OfOpening D (drops_fsetid plan seat kill) →
+        Q (begin (open_file plan seat inode kill flags))
+    opens plan inode kill flags may =
+        begins _ (λ session.
+        opens_num plan session inode kill flags _ may (λ handle.
+        w.gives (answer.Opened handle (open_options plan.config flags)) (refl, λ out. out)))
+
+    pub releases_it : (inode handle : ℕ) → Q (begin (release inode handle))
+    releases_it inode handle = begins _ (λ session. releases handle inode _ (w.gives answer.Done (refl, λ out. out)))
+
+    pub reads : (inode handle size offset : ℕ) → Q (begin (read inode handle size offset))
+    reads inode handle size offset =
+        begins _ (λ session.
+        places offset _ (
+        pins handle inode _ (λ fd.
+        reads_at fd offset size _ (λ bytes. w.gives (answer.Read bytes) (refl, λ out. out)))))
+
+    pub creates : (plan : Plan) (asked : FileAsked) → OfAsker M plan asked.who asked.ext.sup_gid →
+        OfOpening D (drops_fsetid plan seat asked.kill) → Q (begin (create plan seat asked))
     creates plan asked may opening =
         begins _ (λ session.
-        checks (is_bad_name asked.name) _ _ (refuses_so einval) (
+        names asked.name _ (
         resolves asked.parent _ (λ directory.
         files directory.form _ (λ dir.
-        makes_file (asker_of plan session asked.who asked.sup_gid) dir asked.name asked.flags asked.mode
-        _ (takes_old asked) _ (may session) (λ fd. news plan session asked dir fd _ answers)
-        (olds plan session asked _ opening answers)))))
+        makes_file plan session asked dir _ (may session) opening answers))))
       where
         answers : (named : NamedHandle) →
             Q (Gives (answer.Created named.entry named.handle (create_options plan.config)))
         answers named =
             w.gives (answer.Created named.entry named.handle (create_options plan.config)) (refl, λ out. out)
 
-    pub forgets_all : (list : List (ℕ × ℕ)) → Q (batch_forget list)
-    forgets_all list = begins _ (λ session. forgets list _ (w.gives answer.NoReply (refl, λ out. out)))
-
-    pub releases_it : (inode handle : ℕ) → Q (release inode handle)
-    releases_it inode handle = begins _ (λ session. releases handle inode _ (w.gives answer.Done (refl, λ out. out)))
-
-    pub unserves : Q unserved
+    pub unserves : Q (begin unserved)
     unserves = begins _ (λ session. refuses_so (errno_of 38))
-
-    pub each_request : (plan : Plan) (who : Context) (asked : Request) → OfMakings M plan who asked →
-        OfScopes D plan seat asked → Q (tree_of plan seat who asked)
-    each_request plan who (request.Init capable) may scopes =
-        clears _ (λ era.
-        opens_shared plan (session_of era nothing_agreed) (Some (agreed_with plan.config capable)) _ scopes (
-        w.gives (answer.Inited (init_options plan.config capable)) (refl, λ out. out)))
-    each_request plan who request.Destroy may scopes = clears _ (λ era. w.gives answer.NoReply (refl, λ out. out))
-    each_request plan who request.Root may scopes =
-        begins _ (λ session. opens_shared plan session None _ scopes (w.gives answer.Done (refl, λ out. out)))
-    each_request plan who (request.Lookup parent name) may scopes =
-        begins _ (λ session.
-        checks (is_bad_name name) _ _ (refuses_so einval) (
-        looks_up plan session parent name _ (λ looked. w.gives (answer.Entry looked.entry) (refl, λ out. out))))
-    each_request plan who (request.Forget inode count) may scopes = forgets_all ((inode, count) ∷ [])
-    each_request plan who (request.BatchForget list) may scopes = forgets_all list
-    each_request plan who (request.Open inode kill flags) may scopes = opens plan inode kill flags scopes
-    each_request plan who (request.OpenDir inode flags) may scopes =
-        opens plan inode false (with_bits flags o_directory) scopes
-    each_request plan who (request.Release inode handle) may scopes = releases_it inode handle
-    each_request plan who (request.ReleaseDir inode handle) may scopes = releases_it inode handle
-    each_request plan who (request.Read inode handle size offset) may scopes =
-        begins _ (λ session.
-        checks (is_bad_offset offset) _ _ (refuses_so einval) (
-        pins handle inode _ (λ fd.
-        reads_at fd offset size _ (λ bytes. w.gives (answer.Read bytes) (refl, λ out. out)))))
-    each_request plan who (request.Create parent name mode kill flags umask ext) may scopes =
-        creates plan (file_asked who parent name mode kill flags ext) may scopes
-    each_request plan who asked may scopes = unserves

@@ -1,18 +1,18 @@
 -- Believed. Who asks, by the host's ids, and a call that is made as whoever asks. After virtiofsd's
 -- `unix_credentials_guard`, credentials(7), capabilities(7).
-use Rattle.std.specs.Prelude.{ℕ, Bool, not, List, [], ◌∷◌, Option, Some, None, option_map}
-use Rattle.pt_host.specs.Call.{Call}
+use Rattle.std.specs.Prelude.{ℕ, Bool, true, false, not, [], ◌∷◌, Option, Some, None, option_map}
 use Rattle.pt_host.specs.Errno.{eperm}
 use Rattle.pt_host.specs.declared.op.KeptHostOp.TheVariants as call
 use Rattle.pt_host.specs.declared.seat.HostSeat.{HostSeat}
 use Rattle.pt_maps.specs.Translated.{to_host}
-use Rattle.pt_creds.specs.Identity.{Credentials}
-use Rattle.pt_creds.specs.Steps.{cred_steps, calls_of}
+use Rattle.pt_creds.specs.Identity.{Credentials, override_cap}
+use Rattle.pt_creds.specs.Steps.{cred_steps}
+use Rattle.pt_creds.specs.declared.credentials.CredSteps.{CredSteps}
 use Rattle.pt_iface.specs.declared.answer.Answer.TheVariants as answer
 use Rattle.pt_iface.specs.declared.request.Context.{Context}
 use Rattle.pt_frame.specs.Tree.{RequestTree, Gives}
 use Rattle.pt_frame.specs.declared.hold.Hold.TheVariants as hold
-use Rattle.pt_req.specs.Steps.{open_scope, try_call}
+use Rattle.pt_req.specs.Steps.{◌>>◌, open_scope, try_call}
 use Rattle.pt_req.specs.declared.begun.BegunSession.{BegunSession}
 use Rattle.pt_req.specs.declared.plan.Plan.{Plan}
 
@@ -33,16 +33,34 @@ asker_of plan session who group =
     asker_from (to_host plan.uid_map who.uid) (to_host plan.gid_map who.gid) (group_of plan group)
     (not session.agreed.sup_group)
 
--- The calls by which an identity is taken on, each of which opens a scope. The last may be one that raises a
--- capability, which is done without where it is refused, and goes by itself as the uid does.
-abbrev pub taken_on : List Call → RequestTree → RequestTree
-taken_on [] next = next
-taken_on (call.SetGroups list ∷ calls) next = open_scope (call.SetGroups list) hold.Groups (taken_on calls next)
-taken_on (call.SetEgid gid ∷ calls) next = open_scope (call.SetEgid gid) hold.EffectiveGid (taken_on calls next)
-taken_on (call.SetEuid uid ∷ calls) next = open_scope (call.SetEuid uid) hold.EffectiveUid (taken_on calls next)
-taken_on (asked ∷ calls) next = try_call asked (taken_on calls next)
+-- a part of the identity is taken on, if it is to be, under a scope of its own
+abbrev pub group_set : Option ℕ → RequestTree → RequestTree
+group_set None next = next
+group_set (Some group) next = open_scope (call.SetGroups (group ∷ [])) hold.Groups next
+
+abbrev pub egid_set : Option ℕ → RequestTree → RequestTree
+egid_set None next = next
+egid_set (Some gid) next = open_scope (call.SetEgid gid) hold.EffectiveGid next
+
+abbrev pub euid_set : Option ℕ → RequestTree → RequestTree
+euid_set None next = next
+euid_set (Some uid) next = open_scope (call.SetEuid uid) hold.EffectiveUid next
+
+-- a capability is raised, if it is to be, and done without where that is refused; it goes by itself as the uid does
+abbrev pub cap_raised : Bool → RequestTree → RequestTree
+cap_raised false next = next
+cap_raised true next = try_call (call.RaiseCap override_cap) next
+
+-- the calls by which an identity is taken on
+abbrev pub taken_on : CredSteps → RequestTree → RequestTree
+taken_on steps next = do
+  group_set steps.groups
+  egid_set steps.egid
+  euid_set steps.euid
+  cap_raised steps.raise
+  next
 
 -- as whoever asks, from this seat; an id that is forbidden is refused before the first call on the seat
 abbrev pub as_asker : HostSeat → Option Credentials → RequestTree → RequestTree
 as_asker seat None next = Gives (answer.Refused eperm)
-as_asker seat (Some creds) next = taken_on (calls_of (cred_steps creds seat)) next
+as_asker seat (Some creds) next = taken_on (cred_steps creds seat) next

@@ -22,5 +22,5 @@ drops_fsetid plan seat kill = plan.config.killpriv_v2 && kill && includes seat.e
 -- Without it, where it is to be dropped. `Bares` ends the scope behind the call for which it is opened; where that or
 -- what comes before it is refused, the scope ends with the request, and first of all that it holds.
 abbrev pub without_fsetid : Bool → RequestTree → RequestTree
-without_fsetid true next = open_scope (call.DropCap fsetid) (hold.Dropped fsetid) next
 without_fsetid false next = next
+without_fsetid true next = open_scope (call.DropCap fsetid) (hold.Dropped fsetid) next

@@ -1,6 +1,6 @@
 -- Believed. A file is made and opened by a handle, or one whose name is there is opened. After virtiofsd's `create`,
 -- `do_create`, and open(2).
-use Rattle.std.specs.Prelude.{ℕ, Bool, false, ◌&&◌, not, ◌==◌, if◌then◌else◌, Option, Some, None}
+use Rattle.std.specs.Prelude.{ℕ, Bool, false, ◌&&◌, not, ◌==◌, if◌then◌else◌, List, Option, Some, None}
 use Rattle.pt_host.specs.Call.{Call}
 use Rattle.pt_host.specs.Errno.{estale}
 use Rattle.pt_host.specs.Flags.{includes, o_excl}
@@ -11,72 +11,105 @@ use Rattle.pt_host.specs.declared.seat.HostSeat.{HostSeat}
 use Rattle.pt_iface.specs.declared.answer.Answer.{Answer}
 use Rattle.pt_iface.specs.declared.answer.Answer.TheVariants as answer
 use Rattle.pt_iface.specs.declared.entry.Entry.{Entry}
+use Rattle.pt_iface.specs.declared.request.Context.{Context}
+use Rattle.pt_iface.specs.declared.request.Extensions.{Extensions}
 use Rattle.pt_iface.specs.declared.request.SecContext.{SecContext}
 use Rattle.pt_frame.specs.Tree.{RequestTree, Gives}
 use Rattle.pt_req.specs.Asker.{asker_of, as_asker}
 use Rattle.pt_req.specs.Attributes.{mapped_name}
 use Rattle.pt_req.specs.Options.{making_flags}
-use Rattle.pt_req.specs.Steps.{stat, make_at, try_call, set_xattr, take_fd, draw_handle, insert_handle}
-use Rattle.pt_req.specs.Parts.{look_up, open_num}
+use Rattle.pt_req.specs.Steps.{Part, ◌>>=◌, ◌>>◌, stat, make_at, try_call, set_xattr, or_refused}
+use Rattle.pt_req.specs.Parts.{handled, look_up, open_num}
 use Rattle.pt_req.specs.declared.begun.BegunSession.{BegunSession}
-use Rattle.pt_req.specs.declared.parts.asked.FileAsked.{FileAsked}
+use Rattle.pt_req.specs.declared.parts.asked.FileAsked.{FileAsked as Borrowed}
 use Rattle.pt_req.specs.declared.parts.asked.NamedHandle.{NamedHandle}
 use Rattle.pt_req.specs.declared.plan.Plan.{Plan}
+use Rattle.pt_req.specs.declared.replies.Made.{Made}
+use Rattle.pt_req.specs.declared.replies.Made.TheVariants.{New, Old}
+
+-- what `create` asks, with the flags of open(2), and who asks it
+pub record FileAsked : Type 0 where
+  pub who : Context
+  pub parent : ℕ
+  pub name : List ℕ
+  pub mode : ℕ
+  -- whether set-id bits are to go of a file that is there
+  pub kill : Bool
+  pub flags : ℕ
+  pub ext : Extensions
+
+-- and not where its bytes lie
+abbrev pub asked_of : Borrowed → FileAsked
+asked_of asked = record {
+  who = asked.who;
+  parent = asked.parent;
+  name = asked.name.now;
+  mode = asked.mode;
+  kill = asked.kill;
+  flags = asked.flags;
+  ext = asked.ext.now;
+}
 
 abbrev pub are_same : ObjIds → ObjIds → Bool
 are_same one other = (one.ino == other.ino) && (one.dev == other.dev) && (one.mnt_id == other.mnt_id)
 
 -- the name leads to what was made, or is stale
-abbrev pub if_same : ObjIds → ObjIds → RequestTree → RequestTree
+unfoldable pub if_same : ObjIds → ObjIds → RequestTree → RequestTree
 if_same made found next = if are_same made found then next else Gives (answer.Refused estale)
 
 abbrev pub named_handle : Entry → ℕ → NamedHandle
 named_handle entry handle = record { entry = entry; handle = handle }
 
--- what is open gets a handle, by the number of its entry
-abbrev pub handled : BegunSession → Fd → Entry → (NamedHandle → RequestTree) → RequestTree
-handled session fd entry next =
-    draw_handle (λ handle.
-    take_fd (
-    insert_handle session handle entry.inode fd (next (named_handle entry handle))))
-
 -- what was made goes again by this call, whatever the host says of it, and so the request is answered
 abbrev pub undone : Call → Answer → RequestTree
 undone undoing last = try_call undoing (Gives last)
 
--- What was made, and is open there, gets the context of security that the guest brings for it, as an extended
--- attribute. Where that is refused, what was made goes again.
+-- What was made, and is open there, gets this extended attribute. Where that is refused, what was made goes again.
+abbrev pub kept_with : Fd → Call → List ℕ → List ℕ → RequestTree → RequestTree
+kept_with fd undoing name value next = do
+  refused ← set_xattr fd false name value 0
+  or_refused (undone undoing) next refused
+
+-- its context of security is one
+unfoldable pub label_set : BegunSession → Fd → Call → SecContext → RequestTree → RequestTree
+label_set session fd undoing label next =
+    mapped_name session.agreed label.name (λ errno. undone undoing (answer.Refused errno)) (λ name.
+    kept_with fd undoing name label.value next)
+
+-- it gets the one that the guest brings for it, if it does
 abbrev pub labelled : BegunSession → Fd → Call → Option SecContext → RequestTree → RequestTree
 labelled session fd undoing None next = next
-labelled session fd undoing (Some label) next =
-    mapped_name session.agreed label.name (λ errno. undone undoing (answer.Refused errno)) (λ name.
-    set_xattr fd false name label.value 0 (undone undoing) next)
+labelled session fd undoing (Some label) next = label_set session fd undoing label next
 
 -- a file that was made in a directory: it gets its context, its name is looked up, and its own descriptor gets the
 -- handle
-abbrev pub new_file : Plan → BegunSession → FileAsked → Fd → Fd → (NamedHandle → RequestTree) → RequestTree
-new_file plan session asked dir fd next =
-    stat fd (λ made.
-    labelled session fd (call.Unlink dir asked.name) asked.secctx (
-    look_up plan session asked.parent asked.name (λ looked.
-    if_same made.ids looked.ids (
-    handled session fd looked.entry next))))
+unfoldable pub new_file : Plan → BegunSession → FileAsked → Fd → Fd → Part NamedHandle
+new_file plan session asked dir fd next = do
+  made ← stat fd
+  labelled session fd (call.Unlink dir asked.name) asked.ext.secctx
+  looked ← look_up plan session asked.parent asked.name
+  if_same made.ids looked.ids
+  handle ← handled session looked.entry.inode fd
+  next (named_handle looked.entry handle)
 
 -- a file that was there: its name is looked up, and what has its number is opened
-abbrev pub old_file : Plan → HostSeat → BegunSession → FileAsked → (NamedHandle → RequestTree) → RequestTree
-old_file plan seat session asked next =
-    look_up plan session asked.parent asked.name (λ looked.
-    open_num plan seat session looked.entry.inode asked.kill asked.flags (λ handle.
-    next (named_handle looked.entry handle)))
+unfoldable pub old_file : Plan → HostSeat → BegunSession → FileAsked → Part NamedHandle
+old_file plan seat session asked next = do
+  looked ← look_up plan session asked.parent asked.name
+  handle ← open_num plan seat session looked.entry.inode asked.kill asked.flags
+  next (named_handle looked.entry handle)
+
+abbrev pub made_file : Plan → HostSeat → BegunSession → FileAsked → Fd → Made → Part NamedHandle
+made_file plan seat session asked dir (New fd) next = new_file plan session asked dir fd next
+made_file plan seat session asked dir Old next = old_file plan seat session asked next
 
 -- the guest takes a file that is there
-abbrev pub takes_old : FileAsked → Bool
-takes_old asked = not (includes asked.flags o_excl)
+abbrev pub takes_old : ℕ → Bool
+takes_old flags = not (includes flags o_excl)
 
 -- as whoever asks a file is made in a directory; one that is there may be opened in its place
-abbrev pub make_file : Plan → HostSeat → BegunSession → FileAsked → Fd → (NamedHandle → RequestTree) → RequestTree
-make_file plan seat session asked dir next =
-    as_asker seat (asker_of plan session asked.who asked.sup_gid) (
-    make_at dir asked.name (making_flags asked.flags) asked.mode
-    (λ fd. new_file plan session asked dir fd next)
-    (takes_old asked) (old_file plan seat session asked next))
+unfoldable pub make_file : Plan → HostSeat → BegunSession → FileAsked → Fd → Part NamedHandle
+make_file plan seat session asked dir next = do
+  as_asker seat (asker_of plan session asked.who asked.ext.sup_gid)
+  made ← make_at dir asked.name (making_flags asked.flags) asked.mode (takes_old asked.flags)
+  made_file plan seat session asked dir made next

@@ -10,6 +10,3 @@ pub mod Parts
 pub mod Asker
 pub mod Creating
 pub mod Requests
-pub mod Pattern
-pub mod Laws
-pub mod Machine

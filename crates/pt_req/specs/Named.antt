@@ -2,8 +2,8 @@
 -- `CachePolicy` and of `InodeFileHandlesMode`.
 use Rattle.std.specs.Prelude.{ℕ, List, Option, Some, None, codes, if◌then◌else◌}
 use Rattle.std.specs.Str.{bytes_eq, str_eq_ignore_ascii_case}
-use Rattle.pt_req.specs.declared.named.InodeFileHandlesMode.{InodeFileHandlesMode}
-use Rattle.pt_req.specs.declared.named.InodeFileHandlesMode.TheVariants as mode
+use Rattle.pt_req.specs.declared.words.InodeFileHandlesMode.{InodeFileHandlesMode}
+use Rattle.pt_req.specs.declared.words.InodeFileHandlesMode.TheVariants as mode
 use Rattle.pt_req.specs.declared.plan.CachePolicy.{CachePolicy}
 use Rattle.pt_req.specs.declared.plan.CachePolicy.TheVariants as policy
 

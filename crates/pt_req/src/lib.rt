@@ -1,22 +1,29 @@
-//! Requests as trees of steps, by their parts, and the bodies that take the steps.
+//! Requests as trees of steps, by their parts, and the functions that take the steps.
 #![tactic(auto)]
 
 mod begun;
-mod job;
-mod laws;
-mod named;
 mod parts;
 mod plan;
+mod replies;
 mod requests;
+mod steps;
+mod words;
 
 pub use begun::BegunSession;
-pub use job::JobState;
-pub use laws::{requests_spare, requests_tend};
-pub use named::InodeFileHandlesMode;
 pub use parts::{
-    EntryLookup, EntryLookupAt, Looked, Part, are_made, asker_of, attr_of, can_open, drops_fsetid,
-    is_bad_name, is_bad_offset, is_blocked, label_name, label_value, reopen_flags, take_step,
-    undone, want_drop, want_step,
+    FileAsked, Looked, NamedHandle, agreed_with, as_asker, asker_of, attr_of, can_open,
+    create_options, do_lookup, do_open, drops_fsetid, file_of, handled, if_same, init_options,
+    is_bad_name, is_bad_offset, is_blocked, labelled, make_file, named, open_inode, open_options,
+    open_row, or_refused, placed, root_open, undone, without_fsetid,
 };
 pub use plan::{CachePolicy, Config, Plan};
-pub use requests::{RequestBody, take_named};
+pub use replies::{Made, Resolved, ok_in};
+pub use requests::{
+    batch_forget, create, destroy, forget, init, lookup, open, opendir, read, release, root,
+};
+pub use steps::{
+    begin, claim, clear, draw_handle, draw_node, forget_all, forget_one, insert, insert_handle,
+    insert_root, make_at, open_at, open_root, open_scope, pin_handle, read_at, release_handle,
+    reopen, resolve, set_xattr, stat, take_fd, try_call,
+};
+pub use words::InodeFileHandlesMode;

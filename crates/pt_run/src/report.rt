@@ -54,6 +54,8 @@ impl Record for StepLines {
     ghost wrote_act = { λ lines job act longer.
         longer.text.items ≡ lines.text.items ++ step_begin job (act_text act) };
 
+    ghost unwritten = { λ lines left. Unit {0} };
+
     ghost room = { λ lines. 0 };
 
     fn write_act(

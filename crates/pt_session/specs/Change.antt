@@ -1,4 +1,5 @@
 -- Believed. An event as plain data: what it changes, and not where its list lies.
+use Rattle.std.specs.Prelude.{[], ◌∷◌}
 use Rattle.std.specs.Option.{option_copied}
 use Rattle.pt_session.specs.declared.event.Event.{Event}
 use Rattle.pt_session.specs.declared.event.Event.TheVariants as borrowed
@@ -17,9 +18,10 @@ change_of (borrowed.Claim era handle ids) = change.Claim era (option_copied hand
 change_of borrowed.TakeFd = change.TakeFd
 change_of borrowed.GiveFd = change.GiveFd
 change_of borrowed.DrawNode = change.DrawNode
-change_of (borrowed.Insert era number form ids mode) = change.Insert era number form.now ids mode
-change_of (borrowed.InsertRoot era form ids mode negotiated) = change.InsertRoot era form.now ids mode negotiated
+change_of (borrowed.Insert era number form ids mode) = change.Insert era number form ids mode
+change_of (borrowed.InsertRoot era form ids mode negotiated) = change.InsertRoot era form ids mode negotiated
 change_of (borrowed.Forget list) = change.Forget list.now
+change_of (borrowed.ForgetOne number count) = change.Forget ((number, count) ∷ [])
 change_of (borrowed.GiveBack era number) = change.GiveBack era number
 change_of borrowed.DrawHandle = change.DrawHandle
 change_of (borrowed.InsertHandle era handle number fd) = change.InsertHandle era handle number fd

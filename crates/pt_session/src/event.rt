@@ -36,7 +36,7 @@ impl ForgetPairs {
 }
 
 /// One change of the tables. A number is the guest's, a row is named by its serial.
-#[derive(Clone, Copy)]
+#[derive(Drop)]
 pub enum Event<'a> {
     /// A request begins.
     Begin,
@@ -61,20 +61,25 @@ pub enum Event<'a> {
     Insert {
         era: u64,
         number: u64,
-        form: &'a RowForm,
+        form: RowForm,
         ids: ObjIds,
         mode: u32,
     },
     /// Inserts number 1, and says what was agreed on, or leaves it.
     InsertRoot {
         era: u64,
-        form: &'a RowForm,
+        form: RowForm,
         ids: ObjIds,
         mode: u32,
         negotiated: Option<Negotiated>,
     },
     Forget {
         list: &'a [(u64, u64)],
+    },
+    /// The same, of this number alone.
+    ForgetOne {
+        number: u64,
+        count: u64,
     },
     /// Takes back one of what this request was given.
     GiveBack {
@@ -184,14 +189,15 @@ impl<'a> Event<'a> {
         ensures ok { IfOk result (λ kept. kept ≡ change_of self.now) }
         ensures err { OnErr result (HoldsList (change_of self.now)) }
     {
-        match *self {
+        match self {
             Event::Begin => Ok(KeptEvent::Begin),
-            Event::Resolve { number } => Ok(KeptEvent::Resolve { number }),
-            Event::Unpin { row } => Ok(KeptEvent::Unpin { row }),
-            Event::Claim { era, handle, ids } => {
-                let handle = kept_handle(handle);
-                Ok(KeptEvent::Claim { era, handle, ids })
-            }
+            Event::Resolve { number } => Ok(KeptEvent::Resolve { number: *number }),
+            Event::Unpin { row } => Ok(KeptEvent::Unpin { row: *row }),
+            Event::Claim { era, handle, ids } => Ok(KeptEvent::Claim {
+                era: *era,
+                handle: kept_handle(*handle),
+                ids: *ids,
+            }),
             Event::TakeFd => Ok(KeptEvent::TakeFd),
             Event::GiveFd => Ok(KeptEvent::GiveFd),
             Event::DrawNode => Ok(KeptEvent::DrawNode),
@@ -201,38 +207,40 @@ impl<'a> Event<'a> {
                 form,
                 ids,
                 mode,
-            } => {
-                let form = form.copy();
-                Ok(KeptEvent::Insert {
-                    era,
-                    number,
-                    form,
-                    ids,
-                    mode,
-                })
-            }
+            } => Ok(KeptEvent::Insert {
+                era: *era,
+                number: *number,
+                form: form.copy(),
+                ids: *ids,
+                mode: *mode,
+            }),
             Event::InsertRoot {
                 era,
                 form,
                 ids,
                 mode,
                 negotiated,
-            } => {
-                let form = form.copy();
-                Ok(KeptEvent::InsertRoot {
-                    era,
-                    form,
-                    ids,
-                    mode,
-                    negotiated,
-                })
-            }
+            } => Ok(KeptEvent::InsertRoot {
+                era: *era,
+                form: form.copy(),
+                ids: *ids,
+                mode: *mode,
+                negotiated: *negotiated,
+            }),
             Event::Forget { list } => {
                 let pairs = list.to_vec(alloc)?;
                 let list = ForgetPairs::from_vec(pairs);
                 Ok(KeptEvent::Forget { list })
             }
-            Event::GiveBack { era, number } => Ok(KeptEvent::GiveBack { era, number }),
+            Event::ForgetOne { number, count } => {
+                let pairs = [(*number, *count)].to_vec(alloc)?;
+                let list = ForgetPairs::from_vec(pairs);
+                Ok(KeptEvent::Forget { list })
+            }
+            Event::GiveBack { era, number } => Ok(KeptEvent::GiveBack {
+                era: *era,
+                number: *number,
+            }),
             Event::DrawHandle => Ok(KeptEvent::DrawHandle),
             Event::InsertHandle {
                 era,
@@ -240,14 +248,20 @@ impl<'a> Event<'a> {
                 number,
                 fd,
             } => Ok(KeptEvent::InsertHandle {
-                era,
-                handle,
-                number,
-                fd,
+                era: *era,
+                handle: *handle,
+                number: *number,
+                fd: *fd,
             }),
-            Event::PinHandle { handle, number } => Ok(KeptEvent::PinHandle { handle, number }),
-            Event::UnpinHandle { row } => Ok(KeptEvent::UnpinHandle { row }),
-            Event::Release { handle, number } => Ok(KeptEvent::Release { handle, number }),
+            Event::PinHandle { handle, number } => Ok(KeptEvent::PinHandle {
+                handle: *handle,
+                number: *number,
+            }),
+            Event::UnpinHandle { row } => Ok(KeptEvent::UnpinHandle { row: *row }),
+            Event::Release { handle, number } => Ok(KeptEvent::Release {
+                handle: *handle,
+                number: *number,
+            }),
             Event::Clear => Ok(KeptEvent::Clear),
             Event::TakeClosing => Ok(KeptEvent::TakeClosing),
         }
@@ -280,7 +294,7 @@ impl KeptEvent {
             } => Event::Insert {
                 era: *era,
                 number: *number,
-                form,
+                form: form.copy(),
                 ids: *ids,
                 mode: *mode,
             },
@@ -292,7 +306,7 @@ impl KeptEvent {
                 negotiated,
             } => Event::InsertRoot {
                 era: *era,
-                form,
+                form: form.copy(),
                 ids: *ids,
                 mode: *mode,
                 negotiated: *negotiated,

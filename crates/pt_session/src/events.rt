@@ -14,14 +14,14 @@ impl SessionTables {
         requires { Agree (tables_of self.old) }
         ensures { Happens (tables_of self.old) (change_of event.now) result (tables_of self.new) }
     {
-        match *event {
+        match event {
             Event::Begin => EventReply::Began {
                 era: self.era,
                 negotiated: self.negotiated,
             },
-            Event::Resolve { number } => self.resolve(number),
-            Event::Unpin { row } => self.unpin(row),
-            Event::Claim { era, handle, ids } => self.claim(era, handle, ids),
+            Event::Resolve { number } => self.resolve(*number),
+            Event::Unpin { row } => self.unpin(*row),
+            Event::Claim { era, handle, ids } => self.claim(*era, *handle, *ids),
             Event::TakeFd => self.take_fd(),
             Event::GiveFd => self.give_fd(),
             Event::DrawNode => self.draw_node(),
@@ -32,8 +32,12 @@ impl SessionTables {
                 ids,
                 mode,
             } => {
-                let new = NewRow { form, ids, mode };
-                self.insert(era, number, &new)
+                let new = NewRow {
+                    form,
+                    ids: *ids,
+                    mode: *mode,
+                };
+                self.insert(*era, *number, &new)
             }
             Event::InsertRoot {
                 era,
@@ -42,21 +46,26 @@ impl SessionTables {
                 mode,
                 negotiated,
             } => {
-                let new = NewRow { form, ids, mode };
-                self.insert_root(era, &new, negotiated)
+                let new = NewRow {
+                    form,
+                    ids: *ids,
+                    mode: *mode,
+                };
+                self.insert_root(*era, &new, *negotiated)
             }
             Event::Forget { list } => self.forget(list),
-            Event::GiveBack { era, number } => self.give_back(era, number),
+            Event::ForgetOne { number, count } => self.forget(&[(*number, *count)]),
+            Event::GiveBack { era, number } => self.give_back(*era, *number),
             Event::DrawHandle => self.draw_handle(),
             Event::InsertHandle {
                 era,
                 handle,
                 number,
                 fd,
-            } => self.insert_handle(era, handle, number, fd),
-            Event::PinHandle { handle, number } => self.pin_handle(handle, number),
-            Event::UnpinHandle { row } => self.unpin_handle(row),
-            Event::Release { handle, number } => self.release(handle, number),
+            } => self.insert_handle(*era, *handle, *number, *fd),
+            Event::PinHandle { handle, number } => self.pin_handle(*handle, *number),
+            Event::UnpinHandle { row } => self.unpin_handle(*row),
+            Event::Release { handle, number } => self.release(*handle, *number),
             Event::Clear => self.clear(),
             Event::TakeClosing => self.take_closing(),
         }

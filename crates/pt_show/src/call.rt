@@ -14,6 +14,7 @@ use crate::plain::{push_five, push_four, push_name, push_named, push_three, push
 use crate::text::Text;
 use pt_host::{Caps, GroupList, HostOp, KeptHostOp, TimeSet};
 use std::alloc::AllocError;
+use std::slice;
 
 impl Text for Caps {
     ghost text = { caps_text };
@@ -258,6 +259,7 @@ impl Text for HostOp<'_> {
             | HostOp::RaiseCap { .. }
             | HostOp::DropCap { .. }
             | HostOp::SetUmask { .. } => push_of_seat(out, self),
+            HostOp::SetGroup { group } => push_named(out, b" SetGroups", &slice::from_ref(group)),
             HostOp::Edit(edit) => push_named(out, b" Edit", edit),
         }
     }

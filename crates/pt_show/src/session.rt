@@ -9,6 +9,7 @@ use crate::text::Text;
 use pt_host::ObjIds;
 use pt_session::{Event, EventRefusal, EventReply, ForgetPairs, KeptEvent, Negotiated, RowForm};
 use std::alloc::AllocError;
+use std::slice;
 
 impl Text for RowForm {
     ghost text = { form_text };
@@ -115,6 +116,9 @@ impl Text for Event<'_> {
                 negotiated,
             } => write_root(out, *era, form, *ids, *mode, negotiated),
             Event::Forget { list } => push_named(out, b" Forget", list),
+            Event::ForgetOne { number, count } => {
+                push_named(out, b" Forget", &slice::from_ref(&(*number, *count)))
+            }
             Event::GiveBack { era, number } => push_two(out, b" GiveBack", era, number),
             Event::DrawHandle => push_name(out, b" DrawHandle"),
             Event::InsertHandle {

@@ -99,6 +99,7 @@ impl Store {
             | HostOp::ListXattr { .. }
             | HostOp::RemoveXattr { .. } => self.answer_on_attributes(seat, op),
             HostOp::SetGroups { .. }
+            | HostOp::SetGroup { .. }
             | HostOp::SetEgid { .. }
             | HostOp::SetEuid { .. }
             | HostOp::RaiseCap { .. }

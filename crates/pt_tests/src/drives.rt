@@ -4,11 +4,11 @@ ghost use Rattle.pt_fs.specs.Jobs.{StartAll, job_start};
 ghost use Rattle.pt_host.specs.Seat.{IsStartingSeat};
 
 use crate::one_directory::{a_host, a_seat};
-use pt_attr::AnyJob;
 use pt_frame::Finish;
 use pt_fs::{DriveError, Driven, Job, PassthroughFs, SteppedFs, TraceStep, drive};
 use pt_host::{Bytes, Edit, Errno, Fd};
 use pt_iface::{Answer, Context, Refusal, Request};
+use pt_job::AnyJob;
 use pt_req::Config;
 use pt_session::{Event, EventReply, Session};
 use std::alloc::{AllocError, Global};
@@ -16,7 +16,7 @@ use std::mem::forget;
 use std::process::Abort;
 use std::test::Fail;
 
-fn made(alloc: Global, refuses: bool) -> Result<PassthroughFs, Refusal>
+pub fn made(alloc: Global, refuses: bool) -> Result<PassthroughFs, Refusal>
     ensures { IfOk result (λ fs. (limit : ℕ) × (fs.tables ≡ empty_tables limit)) }
 {
     let cfg = Config::new(alloc)?;
@@ -153,13 +153,13 @@ fn answers_as_wanted(answers: &[Answer]) -> bool {
 }
 
 /// Whether the steps belong to these jobs.
-fn belong_to(trace: &[TraceStep], owners: &[u32]) -> bool {
+pub fn belong_to(trace: &[TraceStep], owners: &[u32]) -> bool {
     let mut of_trace = trace.iter().map(|step| &step.job);
     of_trace.eq(owners.iter())
 }
 
 /// The four jobs, where there is memory for them.
-fn four_jobs(alloc: Global) -> Option<Vec<Job>>
+pub fn four_jobs(alloc: Global) -> Option<Vec<Job>>
     ensures start { IfSome result (λ jobs. StartAll jobs.items) }
     ensures four { IfSome result (λ jobs. length jobs.items ≡ 4) }
 {

@@ -20,11 +20,11 @@ fn the_laws_of_jobs_hold() {
     pt_frame::losses_are_told();
     pt_frame::memory_ran_out_at_a_step();
     pt_frame::seats_are_tended();
-    pt_req::requests_spare();
-    pt_req::requests_tend();
-    pt_attr::jobs_are_determined();
-    pt_attr::jobs_tend();
-    pt_attr::no_memory_has_its_cause();
+    pt_job::jobs_are_determined();
+    pt_job::jobs_tend();
+    pt_job::no_memory_has_its_cause();
+    pt_job::requests_spare();
+    pt_job::requests_tend();
 }
 
 #[test]

@@ -5,6 +5,8 @@
 #[cfg(test)]
 mod drives;
 #[cfg(test)]
+mod faces;
+#[cfg(test)]
 mod jobs;
 #[cfg(test)]
 mod laws;
@@ -16,5 +18,7 @@ mod parsed;
 mod plays;
 #[cfg(test)]
 mod reads;
+#[cfg(test)]
+mod stops;
 #[cfg(test)]
 mod streams;

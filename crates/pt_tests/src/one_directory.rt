@@ -14,6 +14,10 @@ pub struct OneDirectory {
 }
 
 impl OneDirectory {
+    pub fn has_file(&self) -> bool {
+        self.has_file
+    }
+
     /// What it answers to a call that is not the seat's own.
     fn answer(&mut self, op: &HostOp<'_>) -> HostReply
         ensures allowed { IsAllowed 0 (call_of op.now) result 0 }

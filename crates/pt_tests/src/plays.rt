@@ -1,7 +1,7 @@
-use pt_attr::AnyJob;
 use pt_frame::{ActReply, Finish, Want};
 use pt_host::{Bytes, Caps, Edit, Errno, Fd, HostReply, HostSeat, HostValue, ObjIds, Stat, Time};
 use pt_iface::{Context, Request};
+use pt_job::AnyJob;
 use pt_maps::IdMap;
 use pt_req::{Config, Plan};
 use pt_session::{EventRefusal, EventReply, Negotiated, RowForm};
@@ -53,7 +53,7 @@ impl Told {
         ActReply::Host(HostReply::Ok(value))
     }
 
-    fn reply(self) -> ActReply {
+    pub fn reply(self) -> ActReply {
         match self {
             Told::Began => Told::by_tables(EventReply::Began {
                 era: 1,
@@ -112,7 +112,7 @@ fn a_stat() -> Stat {
 }
 
 /// Whether a report prints the value so.
-fn has_text<T: Text>(alloc: Global, value: &T, wanted: &[u8]) -> bool {
+pub fn has_text<T: Text>(alloc: Global, value: &T, wanted: &[u8]) -> bool {
     let mut text = Vec::new(alloc);
     value.write(&mut text).is_ok() && text.as_slice() == wanted
 }
@@ -125,7 +125,7 @@ pub struct Played {
 }
 
 /// The plan that no setting changes.
-fn a_plan(alloc: Global) -> Option<Plan> {
+pub fn a_plan(alloc: Global) -> Option<Plan> {
     match Config::new(alloc) {
         Ok(config) => Some(Plan {
             config,

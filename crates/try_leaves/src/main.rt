@@ -4,11 +4,13 @@
 mod copies;
 mod creds;
 mod flags;
+mod handles;
 mod ids;
 mod lengths;
 mod modes;
 mod names;
 mod planned;
+mod replies;
 mod seats;
 mod texts;
 
@@ -33,6 +35,7 @@ fn answer(alloc: Global, seat: &mut HostSeat, words: &[&str]) -> Result<String, 
         "creds" => creds::creds(alloc, rest),
         "cap" => creds::cap(alloc, rest),
         "mask" => creds::mask(alloc, rest),
+        "handles" => handles::answer(alloc, rest),
         _ => String::from_str(alloc, "no call"),
     }
 }

@@ -42,6 +42,7 @@ fn can_fail(op: &HostOp<'_>) -> bool
     matches!(
         op,
         HostOp::SetGroups { .. }
+            | HostOp::SetGroup { .. }
             | HostOp::SetEgid { .. }
             | HostOp::SetEuid { .. }
             | HostOp::RaiseCap { .. }

@@ -1,6 +1,6 @@
 -- Inner. What is left of a job in its frame.
-use Rattle.std.specs.Prelude.{◌≡◌, ℕ, zero, suc, ◌+◌, ◌*◌, ◌^◌, nat_lt, not, Bool, true, false, List, [], ◌∷◌}
-use Rattle.std.specs.Prelude.{Option, Some, None, length}
+use Rattle.std.specs.Prelude.{◌≡◌, ℕ, zero, suc, ◌+◌, ◌-◌, ◌*◌, ◌^◌, ◌≤◌, nat_lt, not, Bool, true, false, List, []}
+use Rattle.std.specs.Prelude.{◌∷◌, Option, Some, None, length}
 use Rattle.pt_host.specs.declared.ids.Errno.{Errno}
 use Rattle.pt_host.specs.declared.seat.HostSeat.{HostSeat}
 use Rattle.pt_iface.specs.declared.answer.Answer.{Answer}
@@ -10,23 +10,16 @@ use Rattle.pt_frame.specs.Held.{is_scope, held, opened}
 use Rattle.pt_frame.specs.Replies.{is_cut, restored}
 use Rattle.pt_frame.specs.Grammar.{Grammar, End}
 use Rattle.pt_frame.specs.Frame.{close_first, leave, or_lost, bare, shut, front, behind, mark_in, outer}
-use Rattle.pt_frame.specs.Frame.{answered}
 use Rattle.pt_frame.specs.Tree.{RequestTree, framed}
-use Rattle.pt_frame.specs.Machine.Next.{begun_by}
+use Rattle.pt_frame.specs.Machine.Room.{most_told}
+use Rattle.pt_frame.specs.Machine.Walk.{told_on, asking}
 use Rattle.pt_frame.specs.declared.act.ActReply.{ActReply}
 use Rattle.pt_frame.specs.declared.finish.Finish.{Finish}
 use Rattle.pt_frame.specs.declared.finish.Finish.TheVariants as finish
 use Rattle.pt_frame.specs.declared.hold.Hold.{Hold}
 use Rattle.pt_frame.specs.declared.hold.Taken.{Taken}
 use Rattle.pt_frame.specs.declared.hold.Taken.TheVariants as taken
-use Rattle.pt_frame.specs.declared.machine.body.Then.{Then}
-use Rattle.pt_frame.specs.declared.machine.body.Then.TheVariants as then
-use Rattle.pt_frame.specs.declared.machine.body.Shut.{Shut}
-use Rattle.pt_frame.specs.declared.machine.body.Edges.{Edges}
-use Rattle.pt_frame.specs.declared.machine.body.Next.{Next}
-use Rattle.pt_frame.specs.declared.machine.body.Next.TheVariants as next
-use Rattle.pt_frame.specs.declared.machine.mode.Tail.{Tail}
-use Rattle.pt_frame.specs.declared.machine.mode.Tail.TheVariants as tail
+use Rattle.pt_frame.specs.declared.told.Heard.TheVariants as heard
 use Rattle.pt_frame.specs.declared.machine.mode.Mode.{Mode}
 use Rattle.pt_frame.specs.declared.machine.mode.Mode.TheVariants as mode
 
@@ -40,35 +33,18 @@ abbrev pub tops : List Hold → Bool
 tops [] = false
 tops (one ∷ holds) = is_scope one
 
--- scopes end, a bracket ends, a bracket begins, and then the rest
-abbrev pub bared : HostSeat → Bool → List Hold → (List Hold → Grammar) → Grammar
-bared seat true holds next = bare seat holds next
-bared seat false holds next = next holds
+-- what is left once the scopes have ended, and once the bracket has
+abbrev pub bares_left : HostSeat → RequestTree → List ℕ → List Hold → Grammar
+bares_left seat tree marks left = framed seat (told_on tree heard.Bares) left marks
 
-abbrev pub ended : HostSeat → Option Shut → List Hold → List ℕ → (List Hold → List ℕ → Grammar) → Grammar
-ended seat None holds marks next = next holds marks
-ended seat (Some it) holds marks next =
-    shut seat (front it.passes holds) (mark_in marks) (behind it.passes holds) (λ left. next left (outer marks))
-
-abbrev pub marked : Bool → List Hold → List ℕ → List ℕ
-marked true holds marks = length holds ∷ marks
-marked false holds marks = marks
-
-abbrev pub edges_left : HostSeat → Edges → (List Hold → List ℕ → Grammar) → List Hold → List ℕ → Grammar
-edges_left seat edges more holds marks =
-    bared seat edges.bares holds (λ left.
-    ended seat edges.shuts left marks (λ kept above. more kept (marked edges.brackets kept above)))
-
--- the body, or an answer
-abbrev pub tail_left : HostSeat → Tail → RequestTree → List Hold → List ℕ → Grammar
-tail_left seat tail.Goes tree holds marks = framed seat tree holds marks
-tail_left seat (tail.Gives last) tree holds marks = answered seat last holds
-tail_left seat (tail.Refuses last) tree holds marks = leave seat holds (finish.Answer last)
+abbrev pub shuts_left : HostSeat → RequestTree → List ℕ → List Hold → Grammar
+shuts_left seat tree marks left = framed seat (told_on tree heard.Shuts) left (outer marks)
 
 abbrev pub mode_left : HostSeat → Mode → RequestTree → List Hold → List ℕ → Grammar
-mode_left seat mode.Body tree holds marks = framed seat tree holds marks
-mode_left seat (mode.Edge edges more) tree holds marks =
-    edges_left seat edges (tail_left seat more tree) holds marks
+mode_left seat mode.Body tree holds marks = framed seat (asking tree) holds marks
+mode_left seat mode.Bares tree holds marks = bare seat holds (bares_left seat tree marks)
+mode_left seat (mode.Shuts passes) tree holds marks =
+    shut seat (front passes holds) (mark_in marks) (behind passes holds) (shuts_left seat tree marks)
 mode_left seat (mode.Out last) tree holds marks =
     shut seat (front true holds) 0 (behind true holds) (λ left. End (finish.Answer last))
 mode_left seat (mode.Leave last) tree holds marks = leave seat holds last
@@ -86,28 +62,16 @@ abbrev pub left_of :
 left_of seat brings count at tree holds marks = close_first brings count holds (mode_left seat at tree holds marks)
 
 -- the last hold passes what is given back next
-abbrev pub shut_passes : Option Shut → Bool
-shut_passes None = false
-shut_passes (Some it) = it.passes
-
-abbrev pub edges_pass : Bool → Option Shut → Bool
-edges_pass true shuts = false
-edges_pass false shuts = shut_passes shuts
-
 abbrev pub passes_at : Mode → Bool
 passes_at mode.Body = false
-passes_at (mode.Edge edges more) = edges_pass edges.bares edges.shuts
+passes_at mode.Bares = false
+passes_at (mode.Shuts passes) = passes
 passes_at (mode.Out last) = true
 passes_at (mode.Leave last) = false
 
 -- a bracket has holds above its mark
-abbrev pub is_above : Option Shut → List Hold → List ℕ → Bool
-is_above None holds marks = false
-is_above (Some it) holds marks = nat_lt (mark_in marks) (length (behind it.passes holds))
-
-abbrev pub is_edge_ready : Bool → Option Shut → List Hold → List ℕ → Bool
-is_edge_ready true shuts holds marks = tops holds
-is_edge_ready false shuts holds marks = is_above shuts holds marks
+abbrev pub is_above : Bool → List Hold → List ℕ → Bool
+is_above passes holds marks = nat_lt (mark_in marks) (length (behind passes holds))
 
 abbrev pub none_in : List Hold → Bool
 none_in [] = true
@@ -116,14 +80,16 @@ none_in (one ∷ holds) = false
 -- what gives back has something to give back; an answer with which a hold passes has that hold
 abbrev pub is_ready : Mode → List Hold → List ℕ → Bool
 is_ready mode.Body holds marks = true
-is_ready (mode.Edge edges more) holds marks = is_edge_ready edges.bares edges.shuts holds marks
+is_ready mode.Bares holds marks = tops holds
+is_ready (mode.Shuts passes) holds marks = is_above passes holds marks
 is_ready (mode.Out last) holds marks = not (none_in holds)
 is_ready (mode.Leave last) holds marks = true
 
 -- nothing is left but the end
 abbrev pub is_over : Mode → List Hold → Bool
 is_over mode.Body holds = false
-is_over (mode.Edge edges more) holds = false
+is_over mode.Bares holds = false
+is_over (mode.Shuts passes) holds = false
 is_over (mode.Out last) holds = none_in (behind true holds)
 is_over (mode.Leave last) holds = none_in holds
 
@@ -155,35 +121,34 @@ IsTold (finish.Answer told) lost = NoneUnless (is_cut told) lost
 
 abbrev pub Tells : Mode → Option Errno → Type 0
 Tells mode.Body lost = lost ≡ None
-Tells (mode.Edge edges more) lost = lost ≡ None
+Tells mode.Bares lost = lost ≡ None
+Tells (mode.Shuts passes) lost = lost ≡ None
 Tells (mode.Out last) lost = lost ≡ None
 Tells (mode.Leave last) lost = IsTold last lost
 
 -- how a mode ends in which nothing is left
 abbrev pub end_of : Mode → Finish
 end_of mode.Body = finish.Answer answer.NoMemory
-end_of (mode.Edge edges more) = finish.Answer answer.NoMemory
+end_of mode.Bares = finish.Answer answer.NoMemory
+end_of (mode.Shuts passes) = finish.Answer answer.NoMemory
 end_of (mode.Out last) = finish.Answer last
 end_of (mode.Leave last) = last
-
-abbrev pub tail_counts : Tail → ℕ → ℕ
-tail_counts tail.Goes count = count
-tail_counts (tail.Gives last) count = 0
-tail_counts (tail.Refuses last) count = 0
 
 -- what counts of the body in a mode: nothing of one that is over
 abbrev pub mode_counts : Mode → ℕ → ℕ
 mode_counts mode.Body count = count
-mode_counts (mode.Edge edges more) count = tail_counts more count
+mode_counts mode.Bares count = count
+mode_counts (mode.Shuts passes) count = count
 mode_counts (mode.Out last) count = 0
 mode_counts (mode.Leave last) count = 0
 
--- a bracket that is to begin takes room
-abbrev pub mode_begins : Mode → ℕ
-mode_begins mode.Body = 0
-mode_begins (mode.Edge edges more) = begun_by edges.brackets
-mode_begins (mode.Out last) = 0
-mode_begins (mode.Leave last) = 0
+-- a body that asks has an act left, and one whose scopes or bracket end is to be told so
+abbrev pub Stays : Mode → ℕ → ℕ → Type 0
+Stays mode.Body acts told = 1 ≤ acts
+Stays mode.Bares acts told = suc told ≤ most_told
+Stays (mode.Shuts passes) acts told = suc told ≤ most_told
+Stays (mode.Out last) acts told = Unit {0}
+Stays (mode.Leave last) acts told = Unit {0}
 
 abbrev pub taken_steps : Taken → ℕ
 taken_steps taken.Nothing = 0
@@ -198,23 +163,13 @@ bound_left brings count more = taken_steps brings + 3 * count + more
 abbrev pub measure_left : Taken → ℕ → ℕ → ℕ
 measure_left brings count more = taken_steps brings + 3 * count + 2 ^ 66 * more
 
--- what is left where a body has answered so, and a refusal is answered so
-abbrev pub then_left : HostSeat → Then → Answer → RequestTree → List Hold → List ℕ → Grammar
-then_left seat then.Goes refused tree holds marks = framed seat tree holds marks
-then_left seat (then.Gives last) refused tree holds marks = answered seat last holds
-then_left seat then.Refuses refused tree holds marks = leave seat holds (finish.Answer refused)
-
-abbrev pub next_left : HostSeat → Next → Answer → RequestTree → List Hold → List ℕ → Grammar
-next_left seat (next.At what) refused tree holds marks = then_left seat what refused tree holds marks
-next_left seat (next.Over edges what) refused tree holds marks =
-    edges_left seat edges (then_left seat what refused tree) holds marks
-next_left seat next.NoMemory refused tree holds marks = leave seat holds (finish.Answer answer.NoMemory)
-
 -- what is left where a hold was given back in this mode, and the seat was lost by it or not
 abbrev pub given_left : HostSeat → Mode → Option Errno → RequestTree → List Hold → List ℕ → Grammar
-given_left seat mode.Body fault tree holds marks = framed seat tree holds marks
-given_left seat (mode.Edge edges more) fault tree holds marks =
-    or_lost seat fault holds (edges_left seat edges (tail_left seat more tree) holds marks)
+given_left seat mode.Body fault tree holds marks = framed seat (asking tree) holds marks
+given_left seat mode.Bares fault tree holds marks =
+    or_lost seat fault holds (mode_left seat mode.Bares tree holds marks)
+given_left seat (mode.Shuts passes) fault tree holds marks =
+    or_lost seat fault holds (mode_left seat (mode.Shuts passes) tree holds marks)
 given_left seat (mode.Out last) fault tree holds marks =
     or_lost seat fault holds (mode_left seat (mode.Out last) tree holds marks)
 given_left seat (mode.Leave last) fault tree holds marks = leave seat holds (restored last fault)

@@ -1,58 +1,78 @@
--- Inner. How many holds and open brackets there may be.
-use Rattle.std.specs.Prelude.{ℕ, Option, Some, None}
-use Rattle.pt_host.specs.Sorts.{Sort, OpensWith, EndsFd, OfSeat, Plain, sort_of}
-use Rattle.pt_session.specs.Change.{Change}
-use Rattle.pt_session.specs.declared.event.KeptEvent.TheVariants as change
-use Rattle.pt_frame.specs.Deed.{Deed, Calls, Changes}
+-- Inner. How much a request asks and brings at most: a bound on what it is told, on its acts with the holds that they
+-- bring, on these holds with the brackets that it begins, and on the rows that it inserts.
+use Rattle.std.specs.Prelude.{ℕ, zero, suc, ◌+◌, ◌-◌, List, [], ◌∷◌, length}
 use Rattle.pt_frame.specs.Tree.{RequestTree, Gives, Refuses, Asks, Opens, Bares, Brackets, Shuts, Allocates}
-use Rattle.pt_frame.specs.declared.hold.Hold.{Hold}
+use Rattle.pt_frame.specs.Machine.Brings.{brings_of, holds_in, rows_in}
+use Rattle.pt_frame.specs.declared.act.ActReply.{ActReply}
+use Rattle.pt_frame.specs.declared.told.Brings.{Brings}
+use Rattle.pt_frame.specs.declared.told.Brings.TheVariants as brings
+use Rattle.pt_frame.specs.declared.told.Heard.{Heard}
+use Rattle.pt_frame.specs.declared.told.Heard.TheVariants as heard
 
 -- The largest request brings 16, brackets counted: a creation that finds its name taken looks it up and opens it.
 abbrev pub most_holds : ℕ
 most_holds = 17
 
-abbrev pub sort_brings : Sort → ℕ
-sort_brings (OpensWith flags) = 1
-sort_brings (EndsFd fd) = 0
-sort_brings OfSeat = 0
-sort_brings Plain = 0
+-- the same request is told 28 replies and marks
+abbrev pub most_told : ℕ
+most_told = 32
 
-abbrev pub change_brings : Change → ℕ
-change_brings change.Begin = 0
-change_brings (change.Resolve number) = 1
-change_brings (change.Unpin row) = 0
-change_brings (change.Claim era handle ids) = 1
-change_brings change.TakeFd = 1
-change_brings change.GiveFd = 0
-change_brings change.DrawNode = 0
-change_brings (change.Insert era number form ids mode) = 1
-change_brings (change.InsertRoot era form ids mode agreed) = 0
-change_brings (change.Forget list) = 0
-change_brings (change.GiveBack era number) = 0
-change_brings change.DrawHandle = 0
-change_brings (change.InsertHandle era handle number fd) = 0
-change_brings (change.PinHandle handle number) = 1
-change_brings (change.UnpinHandle row) = 0
-change_brings (change.Release handle number) = 0
-change_brings change.Clear = 0
-change_brings change.TakeClosing = 0
+-- how many rows a request inserts at most
+abbrev pub most_rows : ℕ
+most_rows = 4
 
--- how many holds a deed of a body brings at most
-abbrev pub deed_brings : Deed → ℕ
-deed_brings (Calls asked) = sort_brings (sort_of asked)
-deed_brings (Changes asked) = change_brings asked
+-- this cost is within the amount, and what is left of that is so
+abbrev pub Spends : ℕ → ℕ → (ℕ → Type 0) → Type 0
+Spends zero amount Then = Then amount
+Spends (suc cost) zero Then = ⊥
+Spends (suc cost) (suc amount) Then = Spends cost amount Then
 
--- and one that opens a scope
-abbrev pub act_brings : Deed → Option Hold → ℕ
-act_brings deed None = deed_brings deed
-act_brings deed (Some scope) = 1
+-- an act costs itself and what it may bring, which is to be given back
+abbrev pub act_cost : Brings → ℕ
+act_cost may = suc (holds_in may)
 
-abbrev pub brings : RequestTree → ℕ
-brings (Asks deed more) = deed_brings deed
-brings (Opens call scope more) = 1
-brings (Gives last) = 0
-brings (Refuses told) = 0
-brings (Bares rest) = 0
-brings (Brackets rest) = 0
-brings (Shuts passes rest) = 0
-brings (Allocates rest) = 0
+abbrev pub SpendsAct : Brings → ℕ → ℕ → ℕ → (ℕ → ℕ → ℕ → Type 0) → Type 0
+SpendsAct may acts room rows Then =
+    Spends (act_cost may) acts (λ acts'. Spends (holds_in may) room (λ room'. Spends (rows_in may) rows (λ rows'.
+    Then acts' room' rows')))
+
+-- it is told no more than so much, and its acts, what they bring and its rows are no more than so many
+abbrev pub Keeps : RequestTree → ℕ → ℕ → ℕ → ℕ → Type 0
+Keeps (Gives last) told acts room rows = Unit {0}
+Keeps (Refuses reply) told acts room rows = Unit {0}
+Keeps (Asks deed more) zero acts room rows = ⊥
+Keeps (Asks deed more) (suc told) acts room rows = SpendsAct (brings_of deed) acts room rows (λ acts' room' rows'.
+    (reply : ActReply) → Keeps (more reply) told acts' room' rows')
+Keeps (Opens call scope more) zero acts room rows = ⊥
+Keeps (Opens call scope more) (suc told) acts room rows = SpendsAct brings.Hold acts room rows
+    (λ acts' room' rows'. (reply : ActReply) → Keeps (more reply) told acts' room' rows')
+Keeps (Bares rest) zero acts room rows = ⊥
+Keeps (Bares rest) (suc told) acts room rows = Keeps rest told acts room rows
+Keeps (Brackets rest) zero acts room rows = ⊥
+Keeps (Brackets rest) (suc told) acts zero rows = ⊥
+Keeps (Brackets rest) (suc told) acts (suc room) rows = Keeps rest told acts room rows
+Keeps (Shuts passes rest) zero acts room rows = ⊥
+Keeps (Shuts passes rest) (suc told) acts room rows = Keeps rest told acts room rows
+Keeps (Allocates rest) told acts room rows = ⊥
+
+-- what was spent of it
+abbrev pub acts_spent : List Heard → ℕ
+acts_spent [] = 0
+acts_spent (heard.Reply reply may ∷ rest) = act_cost may + acts_spent rest
+acts_spent (heard.Bares ∷ rest) = acts_spent rest
+acts_spent (heard.Brackets ∷ rest) = acts_spent rest
+acts_spent (heard.Shuts ∷ rest) = acts_spent rest
+
+abbrev pub room_spent : List Heard → ℕ
+room_spent [] = 0
+room_spent (heard.Reply reply may ∷ rest) = holds_in may + room_spent rest
+room_spent (heard.Bares ∷ rest) = room_spent rest
+room_spent (heard.Brackets ∷ rest) = 1 + room_spent rest
+room_spent (heard.Shuts ∷ rest) = room_spent rest
+
+abbrev pub rows_spent : List Heard → ℕ
+rows_spent [] = 0
+rows_spent (heard.Reply reply may ∷ rest) = rows_in may + rows_spent rest
+rows_spent (heard.Bares ∷ rest) = rows_spent rest
+rows_spent (heard.Brackets ∷ rest) = rows_spent rest
+rows_spent (heard.Shuts ∷ rest) = rows_spent rest

@@ -53,9 +53,10 @@ pub fn closings_in(act: &Act<'_>, reply: &ActReply) -> u64
         (Act::Event(Event::Unpin { .. }), ActReply::Event(EventReply::Done { closings })) => {
             *closings
         }
-        (Act::Event(Event::Forget { .. }), ActReply::Event(EventReply::Done { closings })) => {
-            *closings
-        }
+        (
+            Act::Event(Event::Forget { .. } | Event::ForgetOne { .. }),
+            ActReply::Event(EventReply::Done { closings }),
+        ) => *closings,
         (Act::Event(Event::GiveBack { .. }), ActReply::Event(EventReply::Done { closings })) => {
             *closings
         }

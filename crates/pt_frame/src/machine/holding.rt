@@ -8,7 +8,8 @@ ghost use Rattle.pt_frame.specs.Held.{held, held_called, laid, row_fd, fd_in, is
 ghost use Rattle.pt_frame.specs.Held.{slotted};
 ghost use Rattle.pt_frame.specs.Held.{unslotted, handed, handed_of};
 ghost use Rattle.pt_frame.specs.Machine.Left.{held_by};
-ghost use Rattle.pt_frame.specs.Machine.Room.{deed_brings, act_brings, most_holds};
+ghost use Rattle.pt_frame.specs.Machine.Brings.{deed_brings, act_brings};
+ghost use Rattle.pt_frame.specs.Machine.Room.{most_holds};
 ghost use Rattle.pt_frame.specs.declared.act.ActReply.TheVariants as told;
 
 use crate::act::{Act, ActReply};

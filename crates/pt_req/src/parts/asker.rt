@@ -1,18 +1,16 @@
-ghost use Rattle.std.specs.Prelude.{◌≡◌, ◌+◌, ◌<◌, ◌≤◌, false, IfSome, IfNone};
-ghost use Rattle.pt_frame.specs.Machine.Next.{asked, with_memory, then_tree, AsksFor};
-ghost use Rattle.pt_frame.specs.Machine.Room.{brings};
+ghost use Rattle.std.specs.Prelude.{◌≡◌};
+ghost use Rattle.pt_frame.specs.Machine.Walk.{Reads};
 ghost use Rattle.pt_frame.specs.Tree.{RequestTree};
-ghost use Rattle.pt_req.specs.Asker.{group_of, asker_of};
-ghost use Rattle.pt_req.specs.Machine.Creating.{steps_tree, are_made, steps_acts, steps_room};
-ghost use Rattle.pt_req.specs.Steps.{on_set, on_tried};
+ghost use Rattle.pt_req.specs.Asker.{group_of, asker_of, group_set, egid_set, euid_set, cap_raised, taken_on};
+ghost use Rattle.pt_req.specs.Asker.{as_asker};
 
 use crate::begun::BegunSession;
 use crate::plan::Plan;
+use crate::steps::{open_scope, try_call};
 use pt_creds::{CredSteps, UnixCredentials};
-use pt_frame::{Act, ActReply, Hold, Then, Wanted};
-use pt_host::{Caps, HostOp, HostReply};
-use pt_iface::Context;
-use std::slice;
+use pt_frame::{Asked, Heard, Hold, Stop};
+use pt_host::{Caps, Errno, HostOp, HostSeat};
+use pt_iface::{Answer, Context};
 
 /// The group that the guest tells, by the host's id: it may tell none, or one that is forbidden.
 fn group_of(plan: &Plan, group: Option<u32>) -> Option<Option<u32>>
@@ -42,97 +40,75 @@ pub fn asker_of(
     Some(UnixCredentials::new(uid, gid).supplementary_gid(session.agreed.sup_group, group))
 }
 
-/// Whether no step is left.
-pub fn are_made(steps: &CredSteps) -> bool
-    ensures { result ≡ are_made steps.now }
+/// The group is set, if there is one to set.
+#[tactic(auto, using(pt_frame::proofs::Reading::rest))]
+fn group_set<'a>(told: &'a [Heard], at: &mut usize, group: Option<u32>) -> Asked<'a, ()>
+    ensures { (next : RequestTree) → Reads told.now at.old at.new result (group_set group next) (λ done. next) }
 {
-    steps.groups.is_none() && steps.egid.is_none() && steps.euid.is_none() && !steps.raise
+    match group {
+        None => Ok(()),
+        Some(group) => open_scope(told, at, HostOp::SetGroup { group }, Hold::Groups),
+    }
 }
 
-/// The next of these steps, if any is left.
-pub fn want_step<'a>(steps: &'a CredSteps) -> Option<Wanted<'a>>
-    ensures asks { (next : RequestTree) →
-        IfSome result (λ wanted. AsksFor (steps_tree steps.now next) wanted.act wanted.opens) }
-    ensures fits { (next : RequestTree) →
-        IfSome result (λ wanted. brings (steps_tree steps.now next) ≤ steps_room steps.now) }
-    ensures none { (next : RequestTree) → IfNone result (steps_tree steps.now next ≡ next) }
+/// The effective gid likewise.
+#[tactic(auto, using(pt_frame::proofs::Reading::rest))]
+fn egid_set<'a>(told: &'a [Heard], at: &mut usize, egid: Option<u32>) -> Asked<'a, ()>
+    ensures { (next : RequestTree) → Reads told.now at.old at.new result (egid_set egid next) (λ done. next) }
 {
-    if let Some(group) = &steps.groups {
-        return Some(Wanted {
-            act: Act::Host(HostOp::SetGroups {
-                list: slice::from_ref(group),
-            }),
-            opens: Some(Hold::Groups),
-        });
+    match egid {
+        None => Ok(()),
+        Some(gid) => open_scope(told, at, HostOp::SetEgid { gid }, Hold::EffectiveGid),
     }
-    if let Some(gid) = steps.egid {
-        return Some(Wanted {
-            act: Act::Host(HostOp::SetEgid { gid }),
-            opens: Some(Hold::EffectiveGid),
-        });
+}
+
+/// The effective uid likewise.
+#[tactic(auto, using(pt_frame::proofs::Reading::rest))]
+fn euid_set<'a>(told: &'a [Heard], at: &mut usize, euid: Option<u32>) -> Asked<'a, ()>
+    ensures { (next : RequestTree) → Reads told.now at.old at.new result (euid_set euid next) (λ done. next) }
+{
+    match euid {
+        None => Ok(()),
+        Some(uid) => open_scope(told, at, HostOp::SetEuid { uid }, Hold::EffectiveUid),
     }
-    if let Some(uid) = steps.euid {
-        return Some(Wanted {
-            act: Act::Host(HostOp::SetEuid { uid }),
-            opens: Some(Hold::EffectiveUid),
-        });
-    }
-    if steps.raise {
+}
+
+/// A capability is raised, if it is to be, and done without where that is refused.
+#[tactic(auto, using(pt_frame::proofs::Reading::rest))]
+fn cap_raised<'a>(told: &'a [Heard], at: &mut usize, raise: bool) -> Asked<'a, ()>
+    ensures { (next : RequestTree) → Reads told.now at.old at.new result (cap_raised raise next) (λ done. next) }
+{
+    if raise {
         let caps = Caps::DAC_OVERRIDE;
-        return Some(Wanted {
-            act: Act::Host(HostOp::RaiseCap { caps }),
-            opens: None,
-        });
-    }
-    None
-}
-
-/// What follows a call on the seat that opens a scope.
-fn opened(reply: &ActReply) -> Then
-    ensures { (next : RequestTree) → with_memory next ≡ next →
-        with_memory (on_set next reply.now) ≡ then_tree result reply.now next }
-{
-    match reply {
-        ActReply::Host(HostReply::Ok(_)) => Then::Goes,
-        _ => Then::Refuses,
+        try_call(told, at, HostOp::RaiseCap { caps })
+    } else {
+        Ok(())
     }
 }
 
-/// What follows a call that the host may refuse.
-fn tried(reply: &ActReply) -> Then
-    ensures { (next : RequestTree) → with_memory next ≡ next →
-        with_memory (on_tried next reply.now) ≡ then_tree result reply.now next }
+/// An identity is taken on by these steps.
+fn taken_on<'a>(told: &'a [Heard], at: &mut usize, steps: CredSteps) -> Asked<'a, ()>
+    ensures { (next : RequestTree) → Reads told.now at.old at.new result (taken_on steps next) (λ done. next) }
 {
-    match reply {
-        ActReply::Host(_) => Then::Goes,
-        _ => Then::Refuses,
-    }
+    group_set(told, at, steps.groups)?;
+    egid_set(told, at, steps.egid)?;
+    euid_set(told, at, steps.euid)?;
+    cap_raised(told, at, steps.raise)
 }
 
-/// Goes on from the reply to the next step. A capability that was not raised is done without.
-#[tactic(auto, using(crate::proofs::Scoping::plain_steps))]
-pub fn take_step(steps: &mut CredSteps, reply: &ActReply) -> Then
-    requires { are_made steps.old ≡ false }
-    ensures left { (next : RequestTree) → with_memory next ≡ next →
-        with_memory (asked (steps_tree steps.old next) reply.now)
-        ≡ then_tree result reply.now (steps_tree steps.new next) }
-    ensures fewer { (next : RequestTree) →
-        brings (steps_tree steps.old next) + steps_acts steps.new < steps_acts steps.old }
-    ensures room { (next : RequestTree) →
-        brings (steps_tree steps.old next) + steps_room steps.new ≤ steps_room steps.old }
+/// The identity of who asks is taken on from this seat, unless it is forbidden.
+#[tactic(auto, using(pt_frame::proofs::Reading::gives))]
+pub fn as_asker<'a>(
+    told: &'a [Heard],
+    at: &mut usize,
+    seat: &HostSeat,
+    asker: Option<UnixCredentials>,
+) -> Asked<'a, ()>
+    ensures { (next : RequestTree) →
+        Reads told.now at.old at.new result (as_asker seat.now asker next) (λ done. next) }
 {
-    if steps.groups.is_some() {
-        steps.groups = None;
-        return opened(reply);
+    match asker {
+        None => Err(Stop::Gives(Answer::Refused(Errno::EPERM))),
+        Some(asker) => taken_on(told, at, asker.steps(seat)),
     }
-    if steps.egid.is_some() {
-        steps.egid = None;
-        return opened(reply);
-    }
-    if steps.euid.is_some() {
-        steps.euid = None;
-        return opened(reply);
-    }
-    steps.raise = false;
-    tried(reply)
 }

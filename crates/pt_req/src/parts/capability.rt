@@ -1,11 +1,11 @@
-ghost use Rattle.std.specs.Prelude.{◌≡◌, ◌≤◌, true};
-ghost use Rattle.pt_frame.specs.Machine.Next.{AsksFor};
-ghost use Rattle.pt_frame.specs.Machine.Room.{brings};
+ghost use Rattle.std.specs.Prelude.{◌≡◌};
+ghost use Rattle.pt_frame.specs.Machine.Walk.{Reads};
 ghost use Rattle.pt_frame.specs.Tree.{RequestTree};
 ghost use Rattle.pt_req.specs.Capability.{drops_fsetid, without_fsetid};
 
 use crate::plan::Plan;
-use pt_frame::{Act, Hold, Wanted};
+use crate::steps::open_scope;
+use pt_frame::{Asked, Heard, Hold};
 use pt_host::{Caps, HostOp, HostSeat};
 
 /// Whether a call is to be made without the capability by which a file keeps its set-id bits.
@@ -15,14 +15,16 @@ pub fn drops_fsetid(plan: &Plan, seat: &HostSeat, kill: bool) -> bool
     plan.config.killpriv_v2 && kill && seat.eff_caps.includes(Caps::FSETID)
 }
 
-/// The act that drops it, and opens the scope that ends with the call.
-pub fn want_drop<'a>() -> Wanted<'a>
-    ensures asks { (next : RequestTree) → AsksFor (without_fsetid true next) result.act result.opens }
-    ensures fits { (next : RequestTree) → brings (without_fsetid true next) ≤ 1 }
+/// Without it, where it is to be dropped, up to the end of the scopes.
+#[tactic(auto, using(pt_frame::proofs::Reading::rest))]
+pub fn without_fsetid<'a>(told: &'a [Heard], at: &mut usize, drops: bool) -> Asked<'a, ()>
+    ensures { (next : RequestTree) →
+        Reads told.now at.old at.new result (without_fsetid drops next) (λ done. next) }
 {
-    let caps = Caps::FSETID;
-    Wanted {
-        act: Act::Host(HostOp::DropCap { caps }),
-        opens: Some(Hold::Dropped(caps)),
+    if drops {
+        let caps = Caps::FSETID;
+        open_scope(told, at, HostOp::DropCap { caps }, Hold::Dropped(caps))
+    } else {
+        Ok(())
     }
 }

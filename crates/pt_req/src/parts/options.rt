@@ -67,11 +67,17 @@ fn passed_on(config: &Config, flags: u32) -> u32
     }
 }
 
-/// What an object is opened with, where a descriptor's link in `/proc` is followed.
-pub fn reopen_flags(config: &Config, agreed: Negotiated, flags: u32) -> OpenFlags
-    ensures { result ≡ without_nofollow (inode_flags config.now agreed flags) }
+/// What an object is opened with.
+pub fn inode_flags(config: &Config, agreed: Negotiated, flags: u32) -> u32
+    ensures { result ≡ inode_flags config.now agreed flags }
 {
-    let flags = passed_on(config, written_back(agreed, flags));
+    passed_on(config, written_back(agreed, flags))
+}
+
+/// And where a descriptor's link in `/proc` is followed.
+pub fn without_nofollow(flags: u32) -> OpenFlags
+    ensures { result ≡ without_nofollow flags }
+{
     OpenFlags(without_bits(flags, OpenFlags::O_NOFOLLOW.0))
 }
 

@@ -1,6 +1,6 @@
 use Rattle.std.proofs.Common.{◌≡◌, ◌∙◌, refl, ap, sym}
 use Rattle.std.proofs.lemmas.Option.{get_or_from_slice_get}
-use Rattle.pt_attr.specs.Machine.Job.{is_finished}
+use Rattle.pt_job.specs.Machine.Job.{is_finished}
 use Rattle.pt_fs.specs.declared.machine.Machine.{Machine}
 use Rattle.pt_fs.proofs.Laying.{settles_none, all_go_still}
 use Rattle.pt_fs.proofs.jobs.settle.Goals as goal

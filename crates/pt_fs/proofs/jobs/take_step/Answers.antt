@@ -10,6 +10,7 @@ use Rattle.pt_fs.specs.Work.{work}
 use Rattle.pt_fs.proofs.Laying.{Through, seen_there, waked_goes, went_goes, went_laid, went_through}
 use Rattle.pt_fs.proofs.Recording.{told_so, full_so, paced_so, work_left, paces}
 use Rattle.pt_fs.proofs.Runs.{read_there, run_of, seats_there, set_there, within_places, within_seats}
+use Rattle.pt_fs.proofs.Stopping.{stopped_here}
 use Rattle.pt_fs.proofs.Through.{advances_through, loses_through, told_through}
 use Rattle.pt_fs.proofs.Through.{fewer_through, within_through, spent_through}
 use Rattle.pt_fs.proofs.jobs.take_step.Given.{Over}
@@ -156,3 +157,12 @@ returns-clause-room g c = paced_so c.advance-lost.result c.advance-lost.ensures.
 pub returns-clause-full : goal.returns-clause-full
 returns-clause-full g c = full_so c.advance-lost.result c.advance-lost.ensures.full
     (λ full. work_left _ _ _ (less g (goal.at.returns-clause-full g c).After-settle) full)
+
+pub returns-clause-stopped : goal.returns-clause-stopped
+returns-clause-stopped g c =
+    let after = (goal.at.returns-clause-stopped g c).After-settle in
+    let it = c.advance-lost.ensures.stepped.2 in
+    full_so c.advance-lost.result c.advance-lost.ensures.unwritten (λ broken.
+    stopped_here c.args.running.now c.args.place
+    (run_of c.start-start.result.now c.index_mut-seat.result.now (went g after).state) c.advance-lost.ensures.stepped.0
+    c.advance-lost.new.seat (was g after) it.owner it.made broken)

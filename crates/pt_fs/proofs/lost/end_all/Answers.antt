@@ -1,5 +1,6 @@
 use Rattle.std.proofs.Common.{arith}
 use Rattle.pt_fs.proofs.Remaining.{below_none, below_more, below_all}
+use Rattle.pt_fs.proofs.Stopping.{stopped_goes, err_so}
 use Rattle.pt_fs.proofs.lost.end_all.Goals as goal
 
 pub loop-place-init : goal.loop-place-init
@@ -14,3 +15,7 @@ loop-place-preserved g c = record {
 
 pub returns-clause-finished : goal.returns-clause-finished
 returns-clause-finished g c = below_all c.loop-place.invariant.below (omega arith)
+
+pub returns-in_err-end_one-clause-stopped : goal.returns-in_err-end_one-clause-stopped
+returns-in_err-end_one-clause-stopped g c = err_so c.from_residual.result
+    (stopped_goes c.loop-place.invariant.below.goes c.in_err-end_one.ensures.stopped)

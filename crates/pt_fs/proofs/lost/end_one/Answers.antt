@@ -1,5 +1,6 @@
 use Rattle.pt_fs.proofs.Going.{fewer_took, finished_at, unfinished_at}
 use Rattle.pt_fs.proofs.Remaining.{took_none, took_more, took_all}
+use Rattle.pt_fs.proofs.Stopping.{stopped_goes, err_so}
 use Rattle.pt_fs.proofs.lost.end_one.Goals as goal
 
 pub loop-alloc-init : goal.loop-alloc-init
@@ -24,3 +25,7 @@ returns-clause-finished g c =
 
 pub returns-clause-goes : goal.returns-clause-goes
 returns-clause-goes g c = took_all c.loop-alloc.invariant.some (returns-clause-finished g c)
+
+pub returns-in_err-_lost-clause-stopped : goal.returns-in_err-_lost-clause-stopped
+returns-in_err-_lost-clause-stopped g c = err_so c.from_residual.result
+    (stopped_goes (c.loop-alloc.invariant.some.goes 0) c.in_err-_lost.ensures.stopped)

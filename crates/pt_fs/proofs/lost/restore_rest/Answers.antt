@@ -1,7 +1,8 @@
 use Rattle.std.proofs.Common.{◌∙◌, arith}
 use Rattle.pt_fs.proofs.Going.{fewer_took, length_took}
 use Rattle.pt_fs.proofs.Losing.{restored_none, restored_step, restores_at, over_at, going_at}
-use Rattle.pt_fs.proofs.Recording.{wrote_none, wrote_on, took_behind, paces_on}
+use Rattle.pt_fs.proofs.Recording.{wrote_none, wrote_on, took_behind, paces_on, wrote_so}
+use Rattle.pt_fs.proofs.Stopping.{stopped_goes, err_so}
 use Rattle.pt_fs.proofs.lost.restore_rest.Goals as goal
 
 pub loop-alloc-init : goal.loop-alloc-init
@@ -33,3 +34,8 @@ pub returns-clause-over : goal.returns-clause-over
 returns-clause-over g c =
     over_at c.loop-alloc.running c.args.job _ _ c.loop-alloc-test.false
     c.restoring.ensures.restores c.restoring.ensures.settled
+
+pub returns-in_err-_lost-clause-stopped : goal.returns-in_err-_lost-clause-stopped
+returns-in_err-_lost-clause-stopped g c = err_so c.from_residual.result
+    (stopped_goes (wrote_so c.loop-alloc.invariant.restored (λ xs restored. restored.goes))
+    c.in_err-_lost.ensures.stopped)

@@ -6,10 +6,11 @@ use Rattle.pt_law.proofs.Hosts.{Tells}
 use Rattle.pt_fs.specs.Went.{run_seat}
 use Rattle.pt_fs.specs.Trace.{seated}
 use Rattle.pt_fs.proofs.Concluding.{is_run}
-use Rattle.pt_fs.proofs.Ended.{started_from, started_length, started_calm, started_fits}
+use Rattle.pt_fs.proofs.Ended.{started_from, started_length, started_calm, started_fits, started_seats}
 use Rattle.pt_fs.proofs.Finale.{LostEnd, came_lost, bounded_lost, spent_lost, loses_seat}
 use Rattle.pt_fs.proofs.Going.{there_took}
 use Rattle.pt_fs.proofs.Recording.{wrote_on, wrote_so, winds_behind}
+use Rattle.pt_fs.proofs.Stopping.{stopped_lost}
 use Rattle.pt_fs.proofs.Whole.{Whole, came_whole, bounded_whole, spent_whole, ends_whole}
 use Rattle.pt_fs.proofs.Works.{started_bounds}
 use Rattle.pt_fs.proofs.recorded.drive_into.Given as given
@@ -166,3 +167,20 @@ returns-in-Ok-wind_up-clause-one_each g c =
     ap length c.finish_run-left.ensures.seats ∙ length-map c.wind_up.new.running run_seat
     ∙ c.in-Ok-wind_up.ensures.same ∙ lost.last.same ∙ lost.goes.same
     ∙ started_length plan c.args.jobs.items c.in-Ok.running started
+
+pub returns-in-Err-run_jobs-clause-stopped : goal.returns-in-Err-run_jobs-clause-stopped
+returns-in-Err-run_jobs-clause-stopped g c =
+    let plan = g.F.SteppedFs.plan_of c.args.fs in
+    let started = started_from plan c.args.jobs.items c.in-Ok.running c.in-Ok.ensures.waiting c.in-Ok.ensures.fits in
+    let seats = started_seats plan c.args.jobs.items c.in-Ok.running started in
+    rw c.with_tables-in-Err-run_jobs.ensures.tables
+    (rw (c.replace_session-session.ensures.out, seats) at c.in-Err-run_jobs.ensures.stopped)
+
+pub returns-in-Err-wind_up-clause-stopped : goal.returns-in-Err-wind_up-clause-stopped
+returns-in-Err-wind_up-clause-stopped g c =
+    let plan = g.F.SteppedFs.plan_of c.args.fs in
+    let started = started_from plan c.args.jobs.items c.in-Ok.running c.in-Ok.ensures.waiting c.in-Ok.ensures.fits in
+    let seats = started_seats plan c.args.jobs.items c.in-Ok.running started in
+    let lost = rw c.in-Ok-Some.field-0-is at c.in-Ok-Some.ensures.lost in
+    rw c.with_tables-in-Err-wind_up.ensures.tables
+    (rw (c.replace_session-session.ensures.out, seats) at (stopped_lost lost c.in-Err-wind_up.ensures.stopped))

@@ -4,6 +4,7 @@ use Rattle.pt_fs.specs.Order.{order}
 use Rattle.pt_fs.proofs.Going.{goes_none, goes_on, goes_place, calm_place}
 use Rattle.pt_fs.proofs.Losing.{lost_on, lost_place}
 use Rattle.pt_fs.proofs.Recording.{wrote_none, wrote_on, took_behind, stays_behind, paces_on}
+use Rattle.pt_fs.proofs.Stopping.{stopped_goes, err_so}
 use Rattle.pt_fs.proofs.schedule.run_schedule.Goals as goal
 
 pub loop-place-init : goal.loop-place-init
@@ -44,3 +45,7 @@ pub returns-clause-goes : goal.returns-clause-goes
 returns-clause-goes g c =
     rw (drop_all c.loop-place.place-index c.args.schedule.now (omega (arith, c.loop-place-test.false)))
     at c.loop-place.invariant.goes
+
+pub returns-in_err-errno-clause-stopped : goal.returns-in_err-errno-clause-stopped
+returns-in_err-errno-clause-stopped g c = err_so c.from_residual.result
+    (stopped_goes c.loop-place.invariant.goes c.in_err-errno.ensures.stopped)

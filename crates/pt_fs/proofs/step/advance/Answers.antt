@@ -1,6 +1,6 @@
 use Rattle.std.proofs.Common.{refl}
 use Rattle.pt_frame.specs.declared.act.KeptAct.{KeptAct}
-use Rattle.pt_attr.specs.Machine.Job.{owes}
+use Rattle.pt_job.specs.Machine.Job.{owes}
 use Rattle.pt_fs.specs.Stepped.{Makes, Stepped}
 use Rattle.pt_fs.proofs.Advancing.{stepped}
 use Rattle.pt_fs.proofs.step.advance.Given.{Over}

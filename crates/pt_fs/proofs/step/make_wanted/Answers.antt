@@ -1,10 +1,10 @@
 use Rattle.std.proofs.Common.{inl, refl}
 use Rattle.pt_frame.specs.Deed.{deed_of}
 use Rattle.pt_frame.specs.declared.act.KeptAct.TheVariants as kept_act
-use Rattle.pt_attr.specs.Machine.Job.{owes}
+use Rattle.pt_job.specs.Machine.Job.{owes}
 use Rattle.pt_fs.specs.Recorded.{kept_of}
 use Rattle.pt_fs.proofs.Advancing.{makes, makes_none}
-use Rattle.pt_fs.proofs.Recording.{ok_on}
+use Rattle.pt_fs.proofs.Recording.{full_so, ok_on}
 use Rattle.pt_fs.proofs.step.make_wanted.Goals as goal
 
 pub returns-in-Ok-Whole-clause-made : goal.returns-in-Ok-Whole-clause-made
@@ -41,3 +41,15 @@ returns-in-Err-clause-made g c =
           c.make_from-in-Err.result c.make_from-in-Err.result c.make_from-in-Err.new.host c.make_from-in-Err.new.seat
           c.make_from-in-Err.new.session c.make_from-in-Err.ensures (inl refl),
     )
+
+pub returns-in-Ok-Whole-clause-unwritten : goal.returns-in-Ok-Whole-clause-unwritten
+returns-in-Ok-Whole-clause-unwritten g c =
+    full_so c.write_reply.result c.write_reply.ensures.unwritten
+    (λ leaves. leaves c.args.writer.now c.args.job (kept_of (deed_of c.in-Step.act))
+    (rw c.in-Ok-Whole.field-0-is at c.in-Ok-Whole.ensures.wrote))
+
+pub returns-in-Ok-NoCopy-clause-unwritten : goal.returns-in-Ok-NoCopy-clause-unwritten
+returns-in-Ok-NoCopy-clause-unwritten g c =
+    full_so c.write_reply-in-Ok-NoCopy.result c.write_reply-in-Ok-NoCopy.ensures.unwritten
+    (λ leaves. leaves c.args.writer.now c.args.job kept_act.NoCopy
+    (rw c.in-Ok-NoCopy.field-0-is at c.in-Ok-NoCopy.ensures.wrote))

@@ -2,7 +2,7 @@ use Rattle.std.proofs.Common.{◌≡◌, ◌∙◌, List, refl, ap, sym, subst, 
 use Rattle.std.proofs.lemmas.Option.{same_Some, slice_get_within}
 use Rattle.pt_frame.specs.Frame.{cut as cut_grammar}
 use Rattle.pt_frame.specs.Grammar.{Grammar, IsDo, owed_by}
-use Rattle.pt_attr.specs.Machine.Job.{is_finished as is_job_over}
+use Rattle.pt_job.specs.Machine.Job.{is_finished as is_job_over}
 use Rattle.pt_host.specs.declared.seat.HostSeat.{HostSeat}
 use Rattle.pt_fs.specs.Laid.{runs_of, states_in}
 use Rattle.pt_fs.specs.Running.{State, lost_of, owes}

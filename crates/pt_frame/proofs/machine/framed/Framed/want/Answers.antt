@@ -1,4 +1,5 @@
 use Rattle.std.proofs.Common.{◌≡◌, ◌∷◌, sym, subst, drop}
+use Rattle.pt_frame.specs.Machine.Walk.{walk}
 use Rattle.pt_frame.specs.Grammar.{Wants}
 use Rattle.pt_frame.specs.Frame.{behind}
 use Rattle.pt_frame.specs.declared.act.Want.TheVariants as want
@@ -9,7 +10,7 @@ pub returns-in-Some : goal.returns-in-Some
 returns-in-Some g c =
     let at = c.self.inside in
     let seat = c.args.seat.now in
-    let tree = g.B.Body.left at.body c.args.plan.now seat in
+    let tree = walk (g.B.Body.tree at.body c.args.plan.now seat) at.told in
     rw (← c.self.view_is) (subst (λ x. Wants x (want.Step c.giving.result))
     (sym (left_now seat at.taken at.closings at.mode tree at.holds at.marks c.in-Nothing.is c.if-self-gt0.false))
     (gives_wanted seat at.mode tree at.holds at.marks c.in-Some.hold _ c.giving.result c.in_default.not-Body

@@ -1,5 +1,0 @@
-use Rattle.pt_attr.proofs.Answering.{is_determined}
-use Rattle.pt_attr.proofs.laws.jobs_are_determined.Goals as goal
-
-pub returns : goal.returns
-returns c = is_determined

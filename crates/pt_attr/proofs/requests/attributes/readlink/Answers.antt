@@ -1,0 +1,15 @@
+-- Written by tools/chains.
+use Rattle.std.proofs.Common.{rules}
+use Rattle.pt_frame.proofs.Reading.{gives_moved, stops, then}
+use Rattle.pt_attr.proofs.requests.attributes.readlink.Goals as goal
+
+pub returns-in_err-fd : goal.returns-in_err-fd
+returns-in_err-fd c = λ session. stops (c.in_err-fd.ensures _) (search rules)
+
+pub returns-in_err-place : goal.returns-in_err-place
+returns-in_err-place c = λ session. then (c.in_ok-fd.ensures _) (stops (c.in_err-place.ensures.reads _) (search rules))
+
+pub returns : goal.returns
+returns c = λ session.
+    then (c.in_ok-fd.ensures _) (then (c.in_ok-place.ensures.reads _) (
+    gives_moved _ _ _ _ _ c.in_ok-place.ensures.has))

@@ -1,0 +1,20 @@
+-- Written by tools/chains.
+use Rattle.std.proofs.Common.{rules}
+use Rattle.pt_frame.proofs.Reading.{stops, then}
+use Rattle.pt_attr.proofs.requests.making.symlink.Goals as goal
+
+pub returns-in_err-named : goal.returns-in_err-named
+returns-in_err-named c = stops (c.in_err-named.ensures _ _ _) (search rules)
+
+pub returns-in_err-targeted : goal.returns-in_err-targeted
+returns-in_err-targeted c = then (c.in_ok-named.ensures _ _ _) (stops (c.in_err-targeted.ensures _ _ _) (search rules))
+
+pub returns-in_err-dir : goal.returns-in_err-dir
+returns-in_err-dir c =
+    then (c.in_ok-named.ensures _ _ _) (then (c.in_ok-targeted.ensures _ _ _) (
+    stops (c.in_err-dir.ensures _) (search rules)))
+
+pub returns : goal.returns
+returns c =
+    then (c.in_ok-named.ensures _ _ _) (then (c.in_ok-targeted.ensures _ _ _) (then (c.in_ok-dir.ensures _) (
+    rw (← c.make_symlink-making.ensures, ← c.unlink_name-undoing.ensures) (c.make_object.ensures))))

@@ -1,0 +1,5 @@
+-- Inner. The files of definitions, lowest first.
+pub mod Requests
+pub mod Pattern
+pub mod Laws
+pub mod Machine

@@ -1,0 +1,15 @@
+//! The job of a file system: any request on its way, or an edit beside the requests.
+#![tactic(auto)]
+
+mod body;
+mod job;
+mod laws;
+mod state;
+mod table;
+
+pub use body::AnyBody;
+pub use job::AnyJob;
+pub use laws::{
+    jobs_are_determined, jobs_tend, no_memory_has_its_cause, requests_spare, requests_tend,
+};
+pub use state::JobState;

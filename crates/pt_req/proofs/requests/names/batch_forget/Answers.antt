@@ -1,0 +1,11 @@
+-- Written by tools/chains.
+use Rattle.std.proofs.Common.{rules}
+use Rattle.pt_frame.proofs.Reading.{here, stops, then}
+use Rattle.pt_frame.specs.Tree.{Gives}
+use Rattle.pt_req.proofs.requests.names.batch_forget.Goals as goal
+
+pub returns-in_err-forget_all : goal.returns-in_err-forget_all
+returns-in_err-forget_all c = stops (c.in_err-forget_all.ensures _) (search rules)
+
+pub returns : goal.returns
+returns c = then (c.in_ok-forget_all.ensures _) (here Gives)

@@ -1,0 +1,13 @@
+-- Written by tools/chains.
+use Rattle.std.proofs.Common.{rules}
+use Rattle.pt_frame.proofs.Reading.{stops, then}
+use Rattle.pt_req.proofs.steps.set_xattr.Goals as goal
+
+pub returns-in_err-reply : goal.returns-in_err-reply
+returns-in_err-reply c = λ next.
+    rw (← c.as_slice-name.ensures, ← c.as_slice-value.ensures) (stops (c.in_err-reply.ensures.reads _) (search rules))
+
+pub returns : goal.returns
+returns c = λ next.
+    rw (← c.as_slice-name.ensures, ← c.as_slice-value.ensures) (then (c.in_ok-reply.ensures.reads _) (
+    c.refused_in.ensures _ _ _))
