@@ -31,7 +31,7 @@ use Rattle.pt_req.specs.Parts.{file_of, open_row}
 use Rattle.pt_req.specs.Steps.{begin, ok_in}
 use Rattle.pt_req.specs.declared.begun.BegunSession.{BegunSession}
 use Rattle.pt_req.specs.declared.plan.Plan.{Plan}
-use Rattle.pt_req.specs.declared.replies.Resolved.{Resolved}
+use Rattle.pt_session.specs.declared.reply.Resolved.{Resolved}
 use Rattle.pt_req.proofs.Keeping.{plus, more, step, if_keeps, named_keeps, placed_keeps, file_keeps, row_keeps}
 use Rattle.pt_req.proofs.Keeping.{inode_keeps, look_up_keeps, fsetid_keeps, undone_keeps, or_keeps, asker_keeps}
 use Rattle.pt_attr.specs.Contents.{copyfilerange, fallocate, flush, fsync, lseek, syncfs, write}

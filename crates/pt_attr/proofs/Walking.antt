@@ -34,7 +34,7 @@ use Rattle.pt_req.specs.Parts.{by_path}
 use Rattle.pt_req.specs.Steps.{begin, ok_in, or_refused, refused_in, set_xattr}
 use Rattle.pt_req.specs.declared.begun.BegunSession.{BegunSession}
 use Rattle.pt_req.specs.declared.plan.Plan.{Plan}
-use Rattle.pt_req.specs.declared.replies.Resolved.{Resolved}
+use Rattle.pt_session.specs.declared.reply.Resolved.{Resolved}
 use Rattle.pt_req.proofs.Replying.{if_bytes, if_refused, if_set}
 use Rattle.pt_req.proofs.Walking.{Walk, is_making, begins, checks, files, looks_up, refuses_so, resolves, stats, names}
 use Rattle.pt_req.proofs.Walking.{places, drops_if, opens_row, opens_inode, pins, makes, undoes}

@@ -32,7 +32,7 @@ use Rattle.pt_law.proofs.Made.{made_law}
 use Rattle.pt_law.proofs.Placing.{handle_place, made_places}
 use Rattle.pt_fit.specs.Created.{IsCreated, IsNewFile, IsOldFile, MakesNone}
 use Rattle.pt_fit.specs.Entered.{EntryPlaces}
-use Rattle.pt_fit.specs.Opened.{InsertionGives, IsLookedUp, inserting}
+use Rattle.pt_fit.specs.Opened.{InsertionGives, IsLookedUp, again, claiming, inserting}
 use Rattle.pt_fit.proofs.Entered.{WayAt, created_places}
 use Rattle.pt_fit.proofs.Handling.{each_join}
 use Rattle.pt_fit.proofs.Leading.{IsStill, StillSort}
@@ -69,7 +69,7 @@ looked_makes_none plan era agreed parent name entry own l =
     (tt, (refl, (tt, giving l.giving l.numbered)))
   where
     giving : (steps : List Step) →
-        (steps ≡ made (Changes (change.Claim era None l.stat.ids)) (Event (event.Claimed entry.inode)) ∷ [])
+        (steps ≡ made (Changes (claiming era l.stat)) (Event (event.Claimed (again entry.inode))) ∷ [])
         ⊎ ((fresh : ℕ) × (told : ActReply) × InsertionGives entry.inode told
         × (steps ≡ inserting era l.fd l.stat fresh told)) →
         Each (λ (step : Step). MakesNone step.deed step.reply) steps
@@ -98,10 +98,10 @@ module _ (limit bound : ℕ) (plan : Plan) (turns : List Turn) (start : World) (
       let kept : summed (fd_given n.fd.0) (meanwhile ++ steps_of j places.given.opened.between) ≡ 0 =
       ap (λ (z : List Step). summed (fd_given n.fd.0) (meanwhile ++ z)) places.same_between
       ∙ ap (summed (fd_given n.fd.0)) (append-nil meanwhile) ∙ all_still_keep n.fd.0 meanwhile still in
-      made_places places.given handle (begin ∷ []) n.first n.to_stat n.past_stat w.row w.mode n.how w.form w.ids n.dir
-      n.fd n.flags n.stat
+      made_places places.given handle (begin ∷ []) n.first n.to_stat n.past_stat w.resolved n.how n.dir n.fd n.flags
+      n.stat
       (places.same_front ∙ ap (λ (z : List Step). begin ∷ z)
-      (w.front_is ∙ ap (λ (z : List Step). resolving parent w.row w.form w.ids w.mode ∷ z) n.are))
+      (w.front_is ∙ ap (λ (z : List Step). resolving parent w.resolved ∷ z) n.are))
       (all_still_resolve n.first n.still_first) n.makes n.same_ids kept h.place (h.same_fd ∙ n.inserts.same_fd)
       (subst (Each (λ (step : Step). ComesToNone step.deed step.reply)) (sym h.own) n.inserts.came)
 

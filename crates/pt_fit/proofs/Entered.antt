@@ -1,17 +1,16 @@
 -- An entry that a lookup or `create` answered names what its name led to.
 use Rattle.std.proofs.Common.{◌≡◌, ◌⊎◌, ⊎_elim, inl, inr, ℕ, List, [], ◌∷◌, ◌++◌, refl, sym, ap, subst, ◌∙◌}
-use Rattle.std.proofs.Common.{append_assoc, append-nil, Bool, Some, None}
+use Rattle.std.proofs.Common.{append_assoc, append-nil, Bool, Some}
 use Rattle.pt_host.specs.Words.{Each}
 use Rattle.pt_host.specs.declared.ids.ObjIds.{ObjIds}
 use Rattle.pt_host.specs.declared.seat.HostSeat.{HostSeat}
 use Rattle.pt_host.specs.declared.op.KeptHostOp.TheVariants as call
 use Rattle.pt_host.specs.declared.reply.HostReply.TheVariants as host
 use Rattle.pt_host.specs.declared.reply.HostValue.TheVariants as value
-use Rattle.pt_session.specs.declared.form.RowForm.{RowForm}
-use Rattle.pt_session.specs.declared.form.RowForm.TheVariants.{File}
 use Rattle.pt_session.specs.declared.form.Negotiated.{Negotiated}
 use Rattle.pt_session.specs.declared.event.KeptEvent.TheVariants as change
 use Rattle.pt_session.specs.declared.reply.EventReply.TheVariants as event
+use Rattle.pt_session.specs.declared.reply.Resolved.{Resolved}
 use Rattle.pt_iface.specs.declared.answer.Answer.TheVariants as answer
 use Rattle.pt_iface.specs.declared.entry.Entry.{Entry}
 use Rattle.pt_iface.specs.declared.flags.OpenOptions.{OpenOptions}
@@ -33,7 +32,7 @@ use Rattle.pt_law.specs.Giving.{GivesBy}
 use Rattle.pt_law.specs.Discipline.{AreDisciplined}
 use Rattle.pt_law.proofs.Cuts.{located}
 use Rattle.pt_law.proofs.Giving.{places_of, giving_law}
-use Rattle.pt_fit.specs.Opened.{inserting, InsertionGives, IsLookedUp}
+use Rattle.pt_fit.specs.Opened.{claiming, adding, again, inserting, InsertionGives, IsLookedUp}
 use Rattle.pt_fit.specs.Entered.{EntryPlaces, IsEntered}
 use Rattle.pt_fit.proofs.Looking.{looked_up}
 use Rattle.pt_fit.proofs.Making.{CreatedBy, NewWay, OldWay, created_by}
@@ -54,11 +53,11 @@ giving_of plan era agreed parent name entry own l = ⊎_elim claimed others l.nu
     stat : Step
     stat = made (Calls (call.Stat l.fd)) (Host (host.Ok (value.Stat l.stat)))
 
-    claimed : l.giving ≡ made (Changes (change.Claim era None l.stat.ids)) (Event (event.Claimed entry.inode)) ∷ [] →
+    claimed : l.giving ≡ made (Changes (claiming era l.stat)) (Event (event.Claimed (again entry.inode))) ∷ [] →
         Giving entry.inode l.stat.ids (stat ∷ l.giving)
     claimed e = record {
       middle = stat ∷ [];
-      give = made (Changes (change.Claim era None l.stat.ids)) (Event (event.Claimed entry.inode));
+      give = made (Changes (claiming era l.stat)) (Event (event.Claimed (again entry.inode)));
       quiet = (tt, tt);
       gives = (refl, refl);
       are = ap (λ z. stat ∷ z) e;
@@ -66,22 +65,22 @@ giving_of plan era agreed parent name entry own l = ⊎_elim claimed others l.nu
 
     given : (fresh : ℕ) (told : ActReply) → InsertionGives entry.inode told →
         GivesBy entry.inode l.stat.ids
-        (Some (Changes (change.Insert era fresh (File l.fd) l.stat.ids l.stat.mode))) told
+        (Some (Changes (adding era l.fd l.stat fresh))) told
     given fresh told (inl e) =
         subst (λ t. GivesBy entry.inode l.stat.ids
-        (Some (Changes (change.Insert era fresh (File l.fd) l.stat.ids l.stat.mode))) t) (sym e) (refl, refl)
+        (Some (Changes (adding era l.fd l.stat fresh))) t) (sym e) (refl, refl)
     given fresh told (inr e) =
         subst (λ t. GivesBy entry.inode l.stat.ids
-        (Some (Changes (change.Insert era fresh (File l.fd) l.stat.ids l.stat.mode))) t) (sym e) (refl, refl)
+        (Some (Changes (adding era l.fd l.stat fresh))) t) (sym e) (refl, refl)
 
     others : (fresh : ℕ) × (told : ActReply) × InsertionGives entry.inode told
         × (l.giving ≡ inserting era l.fd l.stat fresh told) → Giving entry.inode l.stat.ids (stat ∷ l.giving)
     others h = record {
       middle = stat
-          ∷ made (Changes (change.Claim era None l.stat.ids)) (Event event.Absent)
+          ∷ made (Changes (claiming era l.stat)) (Event event.Absent)
           ∷ made (Changes change.TakeFd) (Event event.Taken)
           ∷ made (Changes change.DrawNode) (Event (event.Drawn h.0)) ∷ [];
-      give = made (Changes (change.Insert era h.0 (File l.fd) l.stat.ids l.stat.mode)) h.1;
+      give = made (Changes (adding era l.fd l.stat h.0)) h.1;
       quiet = (tt, (tt, (tt, (tt, tt))));
       gives = given h.0 h.1 h.2;
       are = ap (λ z. stat ∷ z) h.3;
@@ -96,8 +95,8 @@ unfolding places_of
 look_places plan turns j parent name entry era agreed front own back e l =
     let g = giving_of plan era agreed parent name entry own l in
     let begin : Step = made (Changes change.Begin) (Event (event.Began era agreed)) in
-    let a = resolving parent l.row l.form l.ids l.mode in
-    let o = opening (fd_of l.form) name by_path 0 l.fd in
+    let a = resolving parent l.resolved in
+    let o = opening (fd_of l.resolved.form) name by_path 0 l.fd in
     let own_is : own ≡ a ∷ o ∷ (g.middle ++ g.give ∷ []) =
     l.in_turn ∙ ap (λ (z : List Step). a ∷ o ∷ z) g.are in
     let all : steps_of j turns ≡ (begin ∷ front) ++ a ∷ ([] ++ o ∷ (g.middle ++ g.give ∷ back)) =
@@ -114,8 +113,8 @@ look_places plan turns j parent name entry era agreed front own back e l =
       back = back;
       all = e;
       looked_up = l;
-      given = places_of j parent name entry.inode l.stat.ids turns l.row l.mode 0 l.form l.ids (fd_of l.form) l.fd
-          by_path (begin ∷ front) [] g.middle back g.give all tt g.quiet g.gives;
+      given = places_of j parent name entry.inode l.stat.ids turns l.resolved 0
+          (fd_of l.resolved.form) l.fd by_path (begin ∷ front) [] g.middle back g.give all tt g.quiet g.gives;
       same_row = refl;
       same_dir = refl;
       same_fd = refl;
@@ -166,12 +165,9 @@ pub record WayAt
     (places : EntryPlaces plan turns job parent name entry)
     (handle : ℕ)
     : Type 0 where
-  pub row : ℕ
-  pub form : RowForm
-  pub ids : ObjIds
-  pub mode : ℕ
+  pub resolved : Resolved
   pub before : List Step
-  pub front_is : places.front ≡ resolving parent row form ids mode ∷ before
+  pub front_is : places.front ≡ resolving parent resolved ∷ before
   pub way : NewWay name places.looked_up.stat.ids entry.inode handle before places.back
       ⊎ OldWay entry.inode handle before places.back
 
@@ -180,13 +176,10 @@ pub created_places : (plan : Plan) (turns : List Turn) (j parent : ℕ) (name : 
     (places : EntryPlaces plan turns j parent name entry) × WayAt places handle
 unfolding look_places
 created_places plan turns j parent name entry handle c = (
-  look_places plan turns j parent name entry c.era c.agreed (resolving parent c.row c.form c.ids c.mode ∷ c.before)
+  look_places plan turns j parent name entry c.era c.agreed (resolving parent c.resolved ∷ c.before)
       c.own c.back c.all c.looked_up,
   record {
-    row = c.row;
-    form = c.form;
-    ids = c.ids;
-    mode = c.mode;
+    resolved = c.resolved;
     before = c.before;
     front_is = refl;
     way = c.way;

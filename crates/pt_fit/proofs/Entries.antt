@@ -23,7 +23,7 @@ use Rattle.pt_frame.specs.declared.act.ActReply.TheVariants.{Event, Host}
 use Rattle.pt_frame.specs.declared.finish.Finish.TheVariants as finish
 use Rattle.pt_req.specs.Parts.{file_of, look_up, named}
 use Rattle.pt_req.specs.Steps.{resolve, session_of, began_in, ok_in, resolved_in, begin}
-use Rattle.pt_req.specs.declared.replies.Resolved.{Resolved}
+use Rattle.pt_session.specs.declared.reply.Resolved.{Resolved}
 use Rattle.pt_req.specs.declared.begun.BegunSession.{BegunSession}
 use Rattle.pt_req.specs.declared.parts.looked.Looked.{Looked}
 use Rattle.pt_req.specs.declared.plan.Plan.{Plan}
@@ -88,10 +88,10 @@ both seat first second next steps last p l =
     let r = goes_on seat (Changes (change.Resolve first)) (on resolved_in then) steps last refl
     (none_told (change.Resolve first) (λ t. refl)) p l in
     let k = resolved seat then r.told r.rest last p r.on in
-    let s = goes_on seat (Changes (change.Resolve second)) (on resolved_in (files k.1)) r.rest last refl
-    (none_told (change.Resolve second) (λ t. refl)) p k.5 in
-    let m = resolved seat (files k.1) s.told s.rest last p s.on in
-    let d = at k.1 m.1 s.rest m.5 in
+    let s = goes_on seat (Changes (change.Resolve second)) (on resolved_in (files k.0.form)) r.rest last refl
+    (none_told (change.Resolve second) (λ t. refl)) p k.2 in
+    let m = resolved seat (files k.0.form) s.told s.rest last p s.on in
+    let d = at k.0.form m.0.form s.rest m.2 in
     record {
       one = made (Changes (change.Resolve first)) r.told;
       other = made (Changes (change.Resolve second)) s.told;

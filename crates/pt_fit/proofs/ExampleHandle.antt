@@ -10,7 +10,7 @@ use Rattle.pt_iface.specs.declared.flags.OpenOptions.{OpenOptions}
 use Rattle.pt_frame.specs.Deed.{Changes, Step}
 use Rattle.pt_frame.specs.Tree.{Allocates, Gives, RequestTree, on, go_on}
 use Rattle.pt_frame.specs.declared.act.ActReply.TheVariants.{Event}
-use Rattle.pt_req.specs.Steps.{insert_handle}
+use Rattle.pt_req.specs.Steps.{insert_handle, new_handle_of}
 use Rattle.pt_req.specs.declared.begun.BegunSession.{BegunSession}
 use Rattle.pt_law.specs.Branch.{GivesUpAfter}
 use Rattle.pt_law.specs.Naming.{made}
@@ -20,7 +20,7 @@ use Rattle.pt_fit.proofs.HandleParts.{Yields}
 module _ (session : BegunSession) (number : ℕ) (fd : Fd) (options : OpenOptions) where
   -- handle 5
   abbrev inserting : Step
-  inserting = made (Changes (change.InsertHandle session.era 5 number fd)) (Event (event.Inserted 5))
+  inserting = made (Changes (change.InsertHandle (new_handle_of session.era 5 number fd))) (Event (event.Inserted 5))
 
   pub gave_up : KeepsHandle (inserting ∷ []) answer.NoMemory → ⊥
   unfolding is

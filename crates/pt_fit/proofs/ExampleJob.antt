@@ -15,6 +15,7 @@ use Rattle.pt_session.specs.Tables.{Tables, HasIds, nothing_agreed}
 use Rattle.pt_session.specs.declared.row.Row.{Row}
 use Rattle.pt_session.specs.declared.form.RowForm.TheVariants.{File}
 use Rattle.pt_session.specs.declared.event.KeptEvent.TheVariants as change
+use Rattle.pt_session.specs.declared.reply.Resolved.{Resolved}
 use Rattle.pt_session.specs.declared.reply.EventReply.TheVariants as event
 use Rattle.pt_iface.specs.declared.answer.Answer.TheVariants as answer
 use Rattle.pt_iface.specs.declared.request.Request.TheVariants as request
@@ -22,6 +23,7 @@ use Rattle.pt_frame.specs.Deed.{Calls, Changes, Step}
 use Rattle.pt_frame.specs.Grammar.{Belongs}
 use Rattle.pt_req.specs.Entries.{entry_of}
 use Rattle.pt_req.specs.Parts.{by_path, named, look_up}
+use Rattle.pt_req.specs.Steps.{claim_of, new_row_of}
 use Rattle.pt_job.specs.Pattern.{grammar_of}
 use Rattle.pt_frame.specs.declared.act.ActReply.TheVariants.{Event, Host}
 use Rattle.pt_frame.specs.declared.finish.Finish.TheVariants as finish
@@ -40,16 +42,19 @@ name = 97 ∷ []
 abbrev root_ids : ObjIds
 root_ids = record { ino = 1; dev = 1; mnt_id = 1 }
 
+abbrev root_row : Resolved
+root_row = record { row = 0; form = File (fd 3); ids = root_ids; mode = 16877 }
+
 abbrev steps : Stat → List Step
 steps stat =
     made (Changes change.Begin) (Event (event.Began 0 nothing_agreed))
-    ∷ made (Changes (change.Resolve 1)) (Event (event.Resolved 0 (File (fd 3)) root_ids 16877))
+    ∷ made (Changes (change.Resolve 1)) (Event (event.Resolved root_row))
     ∷ made (Calls (call.OpenAt (fd 3) name by_path 0)) (Host (host.Ok (value.Fd (fd 4))))
     ∷ made (Calls (call.Stat (fd 4))) (Host (host.Ok (value.Stat stat)))
-    ∷ made (Changes (change.Claim 0 None stat.ids)) (Event event.Absent)
+    ∷ made (Changes (change.Claim (claim_of 0 None stat.ids))) (Event event.Absent)
     ∷ made (Changes change.TakeFd) (Event event.Taken)
     ∷ made (Changes change.DrawNode) (Event (event.Drawn 2))
-    ∷ made (Changes (change.Insert 0 2 (File (fd 4)) stat.ids stat.mode)) (Event (event.Inserted 2))
+    ∷ made (Changes (change.Insert (new_row_of 0 2 (File (fd 4)) stat))) (Event (event.Inserted 2))
     ∷ made (Changes (change.Unpin 0)) (Event (event.Done 0)) ∷ []
 
 belongs : (plan : Plan) (seat : HostSeat) (who : Context) (stat : Stat) →

@@ -25,6 +25,7 @@ use Rattle.pt_session.specs.Tables.{Tables, empty_tables, nothing_agreed}
 use Rattle.pt_session.specs.declared.row.Row.{Row}
 use Rattle.pt_session.specs.declared.form.RowForm.TheVariants.{File}
 use Rattle.pt_session.specs.declared.event.KeptEvent.TheVariants as change
+use Rattle.pt_session.specs.declared.reply.Resolved.{Resolved}
 use Rattle.pt_session.specs.declared.reply.EventReply.{EventReply}
 use Rattle.pt_session.specs.declared.reply.EventReply.TheVariants as event
 use Rattle.pt_iface.specs.declared.answer.Answer.TheVariants as answer
@@ -33,6 +34,7 @@ use Rattle.pt_frame.specs.Deed.{Calls, Changes}
 use Rattle.pt_frame.specs.Grammar.{Belongs}
 use Rattle.pt_req.specs.Entries.{entry_of}
 use Rattle.pt_req.specs.Parts.{by_path, named, look_up}
+use Rattle.pt_req.specs.Steps.{claim_of, new_row_of, new_root_of}
 use Rattle.pt_job.specs.Pattern.{Asked, Requests, grammar_for}
 use Rattle.pt_iface.specs.declared.request.Context.{Context}
 use Rattle.pt_frame.specs.declared.act.ActReply.TheVariants.{Event, Host}
@@ -43,6 +45,7 @@ use Rattle.pt_law.specs.World.{World, Turn, turn_by, Runs, steps_of, settled_by,
 use Rattle.pt_law.specs.Naming.{made}
 use Rattle.pt_law.specs.Discipline.{AreEnded}
 use Rattle.pt_fit.specs.Entered.{IsEntered}
+use Rattle.pt_fit.specs.Opened.{again}
 use Rattle.pt_law.specs.Laws.{Starts}
 use Rattle.pt_fit.specs.Answered.{AreAnswered}
 use Rattle.pt_law.proofs.Lists.{set_at_same, set_at_other}
@@ -258,6 +261,9 @@ tables next_number next_row slots rows = record {
   closing = [];
 }
 
+abbrev root_row : Stat → Resolved
+root_row root = record { row = 0; form = File (fd 3); ids = root.ids; mode = root.mode }
+
 abbrev event_of : ℕ → Change → EventReply → Turn
 event_of job asked told = turn_by job (made (Changes asked) (Event told))
 
@@ -270,23 +276,23 @@ turns plan root file =
     ∷ call_of 0 (call.OpenRoot plan.config.root_dir by_path) (host.Ok (value.Fd (fd 3)))
     ∷ call_of 0 (call.Stat (fd 3)) (host.Ok (value.Stat root))
     ∷ event_of 0 change.TakeFd event.Taken
-    ∷ event_of 0 (change.InsertRoot 0 (File (fd 3)) root.ids root.mode None) (event.Inserted 1)
+    ∷ event_of 0 (change.InsertRoot (new_root_of 0 (File (fd 3)) root None)) (event.Inserted 1)
     ∷ event_of 1 change.Begin (event.Began 0 nothing_agreed)
     ∷ event_of 2 change.Begin (event.Began 0 nothing_agreed)
-    ∷ event_of 1 (change.Resolve 1) (event.Resolved 0 (File (fd 3)) root.ids root.mode)
-    ∷ event_of 2 (change.Resolve 1) (event.Resolved 0 (File (fd 3)) root.ids root.mode)
+    ∷ event_of 1 (change.Resolve 1) (event.Resolved (root_row root))
+    ∷ event_of 2 (change.Resolve 1) (event.Resolved (root_row root))
     ∷ call_of 1 (call.OpenAt (fd 3) name by_path 0) (host.Ok (value.Fd (fd 4)))
     ∷ call_of 2 (call.OpenAt (fd 3) name by_path 0) (host.Ok (value.Fd (fd 5)))
     ∷ call_of 1 (call.Stat (fd 4)) (host.Ok (value.Stat file))
     ∷ call_of 2 (call.Stat (fd 5)) (host.Ok (value.Stat file))
-    ∷ event_of 1 (change.Claim 0 None file.ids) event.Absent
-    ∷ event_of 2 (change.Claim 0 None file.ids) event.Absent
+    ∷ event_of 1 (change.Claim (claim_of 0 None file.ids)) event.Absent
+    ∷ event_of 2 (change.Claim (claim_of 0 None file.ids)) event.Absent
     ∷ event_of 1 change.TakeFd event.Taken
     ∷ event_of 2 change.TakeFd event.Taken
     ∷ event_of 1 change.DrawNode (event.Drawn 2)
     ∷ event_of 2 change.DrawNode (event.Drawn 3)
-    ∷ event_of 1 (change.Insert 0 2 (File (fd 4)) file.ids file.mode) (event.Inserted 2)
-    ∷ event_of 2 (change.Insert 0 3 (File (fd 5)) file.ids file.mode) (event.Found 2)
+    ∷ event_of 1 (change.Insert (new_row_of 0 2 (File (fd 4)) file)) (event.Inserted 2)
+    ∷ event_of 2 (change.Insert (new_row_of 0 3 (File (fd 5)) file)) (event.Found (again 2))
     ∷ event_of 1 (change.Unpin 0) (event.Done 0)
     ∷ call_of 2 (call.Close (fd 5)) (host.Ok value.Unit)
     ∷ event_of 2 change.GiveFd event.Given
@@ -354,14 +360,14 @@ runs plan root file seat apart kind =
       refl,
     ) tt refl (λ asks. asks) at_three at_three (
     event_then seat _ 0 change.TakeFd event.Taken (tables 2 0 4 []) _ (inl (omega arith, (refl, refl))) (
-    event_then seat _ 0 (change.InsertRoot 0 (File (fd 3)) root.ids root.mode None) (event.Inserted 1)
+    event_then seat _ 0 (change.InsertRoot (new_root_of 0 (File (fd 3)) root None)) (event.Inserted 1)
     (tables 2 1 4 (row root 0 ∷ [])) _ (inl (refl, inl (tt, inl (omega arith, inl (refl, refl))))) (
     event_then seat _ 1 change.Begin (event.Began 0 nothing_agreed) (tables 2 1 4 (row root 0 ∷ [])) _ (refl, refl) (
     event_then seat _ 2 change.Begin (event.Began 0 nothing_agreed) (tables 2 1 4 (row root 0 ∷ [])) _ (refl, refl) (
-    event_then seat _ 1 (change.Resolve 1) (event.Resolved 0 (File (fd 3)) root.ids root.mode)
+    event_then seat _ 1 (change.Resolve 1) (event.Resolved (root_row root))
     (tables 2 1 4 (row root 1 ∷ [])) _
     (inr (row root 0, ([], here), (refl, refl), inl (omega arith, (refl, (row root 1 ∷ [], at, refl))))) (
-    event_then seat _ 2 (change.Resolve 1) (event.Resolved 0 (File (fd 3)) root.ids root.mode)
+    event_then seat _ 2 (change.Resolve 1) (event.Resolved (root_row root))
     (tables 2 1 4 (row root 2 ∷ [])) _
     (inr (row root 1, ([], here), (refl, refl), inl (omega arith, (refl, (row root 2 ∷ [], at, refl))))) (
     call_then seat _ 1 (call.OpenAt (fd 3) name by_path 0) (value.Fd (fd 4)) (tree root file four) _
@@ -406,9 +412,9 @@ runs plan root file seat apart kind =
       record { ids = refl; kind = refl },
       refl,
     ) tt refl (λ asks. asks) at_five at_five (
-    event_then seat _ 1 (change.Claim 0 None file.ids) event.Absent (tables 2 1 4 (row root 2 ∷ [])) _
+    event_then seat _ 1 (change.Claim (claim_of 0 None file.ids)) event.Absent (tables 2 1 4 (row root 2 ∷ [])) _
     (inl (refl, inl (((λ h. apart h.1), tt), (refl, refl)))) (
-    event_then seat _ 2 (change.Claim 0 None file.ids) event.Absent (tables 2 1 4 (row root 2 ∷ [])) _
+    event_then seat _ 2 (change.Claim (claim_of 0 None file.ids)) event.Absent (tables 2 1 4 (row root 2 ∷ [])) _
     (inl (refl, inl (((λ h. apart h.1), tt), (refl, refl)))) (
     event_then seat _ 1 change.TakeFd event.Taken (tables 2 1 3 (row root 2 ∷ [])) _ (inl (omega arith, (refl, refl)))
     (
@@ -428,7 +434,7 @@ runs plan root file seat apart kind =
         refl,
       ),
     )) (
-    event_then seat _ 1 (change.Insert 0 2 (File (fd 4)) file.ids file.mode) (event.Inserted 2)
+    event_then seat _ 1 (change.Insert (new_row_of 0 2 (File (fd 4)) file)) (event.Inserted 2)
     (tables 4 2 2 (added file 1 ∷ row root 2 ∷ [])) _
     (inl (
       refl,
@@ -440,7 +446,7 @@ runs plan root file seat apart kind =
         ),
       ),
     )) (
-    event_then seat _ 2 (change.Insert 0 3 (File (fd 5)) file.ids file.mode) (event.Found 2)
+    event_then seat _ 2 (change.Insert (new_row_of 0 3 (File (fd 5)) file)) (event.Found (again 2))
     (tables 4 2 2 (added file 2 ∷ row root 2 ∷ [])) _
     (inl (
       refl,

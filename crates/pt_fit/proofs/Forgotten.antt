@@ -50,7 +50,7 @@ use Rattle.pt_job.specs.Pattern.{tree_of}
 use Rattle.pt_req.specs.Creating.{make_file}
 use Rattle.pt_req.specs.Requests.{lookup, open_dir, open_file, file_asked}
 use Rattle.pt_req.specs.Steps.{session_of, begin, resolve, open_at, stat, began_in, ok_in, resolved_in}
-use Rattle.pt_req.specs.declared.replies.Resolved.{Resolved}
+use Rattle.pt_session.specs.declared.reply.Resolved.{Resolved}
 use Rattle.pt_req.specs.declared.begun.BegunSession.{BegunSession}
 use Rattle.pt_req.specs.declared.plan.Plan.{Plan}
 use Rattle.pt_job.specs.Pattern.{grammar_of}

@@ -35,10 +35,10 @@ use Rattle.pt_req.specs.Options.{without_nofollow}
 use Rattle.pt_req.specs.Parts.{by_path, file_of, look_up, looked_of, named, numbered, numbered_as, open_form}
 use Rattle.pt_req.specs.Parts.{open_inode, open_num, open_row, placed, root_open}
 use Rattle.pt_req.specs.Steps.{begin, clear, draw_handle, draw_node, insert, insert_handle, resolve, session_of, stat}
-use Rattle.pt_req.specs.Steps.{claimed_in}
+use Rattle.pt_req.specs.Steps.{claimed_in, claim_of, new_row_of, new_root_of, new_handle_of}
 use Rattle.pt_req.specs.Steps.{take_fd, began_in, cleared_in, done_in, drawn_in, fd_in, inserted_in, numbered_in}
 use Rattle.pt_req.specs.Steps.{ok_in, resolved_in, stat_in, taken_in}
-use Rattle.pt_req.specs.declared.replies.Resolved.{Resolved}
+use Rattle.pt_session.specs.declared.reply.Resolved.{Resolved}
 use Rattle.pt_req.specs.declared.begun.BegunSession.{BegunSession}
 use Rattle.pt_req.specs.declared.parts.looked.Looked.{Looked}
 use Rattle.pt_req.specs.declared.plan.Plan.{Plan}
@@ -181,14 +181,14 @@ unfolding on go_on
 inserts_handle session handle number fd next so = record { on = go; up = up }
   where
     asked : Deed
-    asked = Changes (change.InsertHandle session.era handle number fd)
+    asked = Changes (change.InsertHandle (new_handle_of session.era handle number fd))
 
     -- by a reply that may come
     replied : (told : ActReply) (path : List Step) (last : Answer) → MayBeTold asked told → AllMayBeTold path →
         Along (on inserted_in (λ done. next) told) path last → (h : ℕ) →
         weighed (handle_inserted_as h) (Some asked) told + handles_in h path ≡ handle_count h last
     replied (Event (event.Inserted given)) path last may m a h =
-        let inserting = change.InsertHandle session.era handle number fd in
+        let inserting = change.InsertHandle (new_handle_of session.era handle number fd) in
         let e = (cases may.0 may.1 inserting (event.Inserted given) may.2).3 in
         let f = ap (λ n. is n h) e in
         let k = so.on path last a h in
@@ -264,8 +264,7 @@ clears next so = asks (Changes change.Clear) (on cleared_in next) (λ h told. re
 pub resolves : (number : ℕ) (next : Resolved → RequestTree) → ((row : Resolved) → Yields (next row)) →
     Yields (resolve number next)
 resolves number next so = asks (Changes (change.Resolve number)) (on resolved_in next) (λ h told. refl)
-    (if_resolved P next refuses (λ row form ids mode.
-    so (record { row = row; form = form; ids = ids; mode = mode })))
+    (if_resolved P next refuses so)
 
 pub calls_fd : (asked : Call) (next : Fd → RequestTree) → ((fd : Fd) → Yields (next fd)) →
     Yields (Asks (Calls asked) (on fd_in next))
@@ -318,13 +317,13 @@ pub numbers : (session : BegunSession) (form : RowForm) (told : Stat) (next : �
 numbers session form told next so =
     let adds : ℕ → RequestTree = λ fresh. insert session fresh form told next in
     let by : Option ℕ → RequestTree = λ given. numbered_as session form told given next in
-    asks (Changes (change.Claim session.era None told.ids)) (on claimed_in by) (λ h told. refl)
-    (if_claimed P by refuses so (
+    asks (Changes (change.Claim (claim_of session.era None told.ids))) (on claimed_in by) (λ h told. refl)
+    (if_claimed P by refuses (λ given. so given.number) (
     takes (draw_node adds) (
     asks (Changes change.DrawNode) (on drawn_in adds) (λ h told. refl) (
     if_drawn P adds refuses (λ fresh.
-    asks (Changes (change.Insert session.era fresh form told.ids told.mode)) (on numbered_in next) (λ h told. refl)
-    (if_numbered P next refuses so so))))))
+    asks (Changes (change.Insert (new_row_of session.era fresh form told))) (on numbered_in next) (λ h told. refl)
+    (if_numbered P next refuses so (λ given. so given.number)))))))
 
 pub looks_up : (plan : Plan) (session : BegunSession) (parent : ℕ) (name : List ℕ) (next : Looked → RequestTree) →
     ((looked : Looked) → Yields (next looked)) → Yields (look_up plan session parent name next)
@@ -402,6 +401,6 @@ opens_shared plan session agreed next so =
     calls_fd (call.OpenRoot plan.config.root_dir by_path) _ (λ fd.
     stats fd _ (λ told.
     takes _ (
-    asks (Changes (change.InsertRoot session.era (File fd) told.ids told.mode agreed)) (on inserted_in (λ done. next))
+    asks (Changes (change.InsertRoot (new_root_of session.era (File fd) told agreed))) (on inserted_in (λ done. next))
     (λ h told. refl)
     (if_inserted P next refuses (λ number. so)))))

@@ -30,8 +30,8 @@ use Rattle.pt_req.specs.Entries.{can_open}
 use Rattle.pt_req.specs.Options.{cleaned, create_options, inode_flags, without_nofollow}
 use Rattle.pt_req.specs.Parts.{handled, open_form, open_num, open_row}
 use Rattle.pt_req.specs.Steps.{draw_handle, insert_handle, resolve, take_fd, drawn_in, fd_in, inserted_in, ok_in}
-use Rattle.pt_req.specs.Steps.{resolved_in, taken_in}
-use Rattle.pt_req.specs.declared.replies.Resolved.{Resolved}
+use Rattle.pt_req.specs.Steps.{new_handle_of, resolved_in, taken_in}
+use Rattle.pt_session.specs.declared.reply.Resolved.{Resolved}
 use Rattle.pt_req.specs.declared.begun.BegunSession.{BegunSession}
 use Rattle.pt_req.specs.declared.parts.asked.NamedHandle.{NamedHandle}
 use Rattle.pt_req.specs.declared.plan.Plan.{Plan}
@@ -93,10 +93,9 @@ handle_along next told path last p a = absurd (refused_along told path last p a)
 
 resolved_along : (next : Resolved → RequestTree) (told : ActReply) (path : List Step) (last : Answer) →
     HasEntry last → Along (on resolved_in next told) path last →
-    (row : ℕ) × (form : RowForm) × (ids : ObjIds) × (mode : ℕ) × (told ≡ Event (event.Resolved row form ids mode))
-    × Along (next (record { row = row; form = form; ids = ids; mode = mode })) path last
+    (row : Resolved) × (told ≡ Event (event.Resolved row)) × Along (next row) path last
 unfolding on go_on
-resolved_along next (Event (event.Resolved row form ids mode)) path last p a = (row, form, ids, mode, refl, a)
+resolved_along next (Event (event.Resolved row)) path last p a = (row, refl, a)
 resolved_along next told path last p a = absurd (refused_along told path last p a)
 
 opened_along : (next : Fd → RequestTree) (told : ActReply) (path : List Step) (last : Answer) → HasEntry last →
@@ -121,7 +120,7 @@ slot_taken = made (Changes change.TakeFd) (Event event.Taken)
 
 abbrev pub inserted : ℕ → ℕ → ℕ → Fd → ℕ → Step
 inserted era handle number fd told =
-    made (Changes (change.InsertHandle era handle number fd)) (Event (event.Inserted told))
+    made (Changes (change.InsertHandle (new_handle_of era handle number fd))) (Event (event.Inserted told))
 
 drawing_along : (session : BegunSession) (number : ℕ) (fd : Fd) (next : ℕ → RequestTree) (path : List Step)
     (last : Answer) → HasEntry last →
@@ -137,7 +136,7 @@ drawing_along session number fd next path last p a =
     let k = drawn_along (λ handle. take_fd (inserts handle)) d.told d.rest last p d.on in
     let t = along_on (Changes change.TakeFd) (on taken_in (λ done. inserts k.0)) d.rest last refl p k.2 in
     let m = taken_along (inserts k.0) t.told t.rest last p t.on in
-    let asks = change.InsertHandle session.era k.0 number fd in
+    let asks = change.InsertHandle (new_handle_of session.era k.0 number fd) in
     let i = along_on (Changes asks) (on inserted_in (λ done. next k.0)) t.rest last refl p m.1 in
     let n = handle_along (next k.0) i.told i.rest last p i.on in
     (k.0, n.0, i.rest, step_to d.are k.1 (step_to t.are m.0 (step_to i.are n.1 refl)), n.2)
@@ -262,15 +261,15 @@ opened_num_along plan seat session kill flags entry given handle options path a 
     let r = along_on (Changes (change.Resolve entry.inode)) (on resolved_in (λ row. open_row row bits drawn)) w.rest
     last refl refl w.on in
     let k = resolved_along (λ row. open_row row bits drawn) r.told r.rest last refl r.on in
-    let o = kind (can_open k.3) k.1 r.rest k.5 in
+    let o = kind (can_open k.0.mode) k.0.form r.rest k.2 in
     let d = drawing_along session entry.inode o.0 (λ handle. Shuts false (answers plan (named_handle entry handle)))
     o.3 last refl o.5 in
     let e = answered_along plan entry given d.0 handle options d.2 d.4 in
-    let opens : List Step = made (Changes (change.Resolve entry.inode)) (Event (event.Resolved k.0 k.1 k.2 k.3))
+    let opens : List Step = made (Changes (change.Resolve entry.inode)) (Event (event.Resolved k.0))
     ∷ made (Calls (call.Reopen o.1 o.2)) (Host (host.Ok (value.Fd o.0))) ∷ handle_drawn d.0 ∷ slot_taken ∷ [] in
     let inserts : List Step = inserted session.era d.0 entry.inode o.0 d.1 ∷ [] in
     let later : w.rest ≡ opens ++ inserts =
-    step_to r.are k.4 (o.4
+    step_to r.are k.1 (o.4
     ∙ ap (λ (z : List Step). made (Calls (call.Reopen o.1 o.2)) (Host (host.Ok (value.Fd o.0))) ∷ z) (d.3
     ∙ (λ i. handle_drawn d.0 ∷ slot_taken ∷ inserted session.era d.0 entry.inode o.0 d.1 ∷ e.0 i))) in
     let by : HandlesOwn entry.inode d.0 path = record {
@@ -317,8 +316,8 @@ opened_num_along plan seat session kill flags entry given handle options path a 
 
 returns_come : (deed : Option Deed) (told : ActReply) → ReturnsHold deed → ComesToNone deed told
 returns_come (Some (Changes (change.Resolve number))) told h = absurd h
-returns_come (Some (Changes (change.Claim era handle ids))) told h = absurd h
-returns_come (Some (Changes (change.Insert era number form ids mode))) told h = absurd h
+returns_come (Some (Changes (change.Claim claim))) told h = absurd h
+returns_come (Some (Changes (change.Insert new))) told h = absurd h
 returns_come (Some (Changes asked)) told h = tt
 returns_come (Some (Calls asked)) told h = tt
 returns_come None told h = tt

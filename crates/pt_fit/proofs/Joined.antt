@@ -23,7 +23,7 @@ use Rattle.pt_req.specs.Parts.{by_path, file_of, look_up, looked_of, numbered, o
 use Rattle.pt_req.specs.Parts.{open_inode, root_open}
 use Rattle.pt_req.specs.Requests.{unserved}
 use Rattle.pt_req.specs.Steps.{begin}
-use Rattle.pt_req.specs.declared.replies.Resolved.{Resolved}
+use Rattle.pt_session.specs.declared.reply.Resolved.{Resolved}
 use Rattle.pt_req.specs.declared.begun.BegunSession.{BegunSession}
 use Rattle.pt_req.specs.declared.parts.looked.Looked.{Looked}
 use Rattle.pt_req.specs.declared.plan.Plan.{Plan}

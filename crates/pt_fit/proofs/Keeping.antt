@@ -49,7 +49,7 @@ use Rattle.pt_req.specs.Parts.{by_path}
 use Rattle.pt_req.specs.Requests.{batch_forget, create, file_asked, open_file, release, unserved}
 use Rattle.pt_req.specs.Steps.{begin, made_in, make_at, ok_in, or_refused, pin_handle, pinned_in, refused_in}
 use Rattle.pt_req.specs.Steps.{session_of, tried_in}
-use Rattle.pt_req.specs.declared.replies.Resolved.{Resolved}
+use Rattle.pt_session.specs.declared.reply.Resolved.{Resolved}
 use Rattle.pt_req.specs.declared.begun.BegunSession.{BegunSession}
 use Rattle.pt_req.specs.declared.replies.Made.{Made}
 use Rattle.pt_req.specs.declared.replies.Made.TheVariants.{New, Old}
@@ -459,7 +459,7 @@ each_keeps plan seat who asked = unserves
 
 returns_none : (deed : Option Deed) (told : ActReply) (handle : ℕ) → ReturnsHold deed →
     weighed (handle_inserted_as handle) deed told ≡ 0
-returns_none (Some (Changes (change.InsertHandle era drawn number fd))) told handle r = absurd r
+returns_none (Some (Changes (change.InsertHandle new))) told handle r = absurd r
 returns_none (Some (Changes asked)) told handle r = refl
 returns_none (Some (Calls asked)) told handle r = refl
 returns_none None told handle r = refl

@@ -32,13 +32,14 @@ use Rattle.pt_req.specs.Parts.{by_path, named, file_of, numbered_as, numbered, l
 use Rattle.pt_req.specs.Steps.{session_of, resolve, open_at, stat, draw_node, insert, began_in, drawn_in}
 use Rattle.pt_req.specs.Steps.{claimed_in}
 use Rattle.pt_req.specs.Steps.{fd_in, numbered_in, resolved_in, stat_in, taken_in}
-use Rattle.pt_req.specs.declared.replies.Resolved.{Resolved}
+use Rattle.pt_session.specs.declared.reply.Resolved.{Resolved}
 use Rattle.pt_req.specs.declared.begun.BegunSession.{BegunSession}
 use Rattle.pt_req.specs.declared.parts.looked.Looked.{Looked}
 use Rattle.pt_req.specs.declared.plan.Plan.{Plan}
 use Rattle.pt_job.specs.Pattern.{grammar_of}
 use Rattle.pt_law.specs.Naming.{made}
-use Rattle.pt_fit.specs.Opened.{inserting, InsertionGives, Numbers, IsLookedUp}
+use Rattle.pt_law.specs.World.{fd_of}
+use Rattle.pt_fit.specs.Opened.{claiming, adding, again, inserting, InsertionGives, Numbers, IsLookedUp}
 use Rattle.pt_fit.proofs.Leading.{HasEntry, Leads, refused_none, given_none, shut_none, goes_on, none_told}
 use Rattle.pt_fit.proofs.Leading.{in_bracket}
 
@@ -57,11 +58,15 @@ began seat next told rest last p a = absurd (refused_none seat told rest last p 
 
 pub resolved : (seat : HostSeat) (next : Resolved → RequestTree) (told : ActReply) (rest : List Step)
     (last : Answer) → HasEntry last → Leads seat (on resolved_in next told) rest last →
-    (row : ℕ) × (form : RowForm) × (ids : ObjIds) × (mode : ℕ) × (told ≡ Event (event.Resolved row form ids mode))
-    × Leads seat (next (record { row = row; form = form; ids = ids; mode = mode })) rest last
+    (row : Resolved) × (told ≡ Event (event.Resolved row)) × Leads seat (next row) rest last
 unfolding on go_on
-resolved seat next (Event (event.Resolved row form ids mode)) rest last p a = (row, form, ids, mode, refl, a)
+resolved seat next (Event (event.Resolved row)) rest last p a = (row, refl, a)
 resolved seat next told rest last p a = absurd (refused_none seat told rest last p a)
+
+-- the file of a row that was resolved
+pub filed : (seat : HostSeat) (form : RowForm) (next : Fd → RequestTree) (rest : List Step) (last : Answer) →
+    Leads seat (file_of form next) rest last → Leads seat (next (fd_of form)) rest last
+filed seat (File dir) next rest last a = a
 
 opened : (seat : HostSeat) (next : Fd → RequestTree) (told : ActReply) (rest : List Step) (last : Answer) →
     HasEntry last → Leads seat (on fd_in next told) rest last →
@@ -79,10 +84,10 @@ stated seat next told rest last p a = absurd (refused_none seat told rest last p
 
 claimed : (seat : HostSeat) (next : Option ℕ → RequestTree) (told : ActReply) (rest : List Step) (last : Answer) →
     HasEntry last → Leads seat (on claimed_in next told) rest last →
-    ((number : ℕ) × (told ≡ Event (event.Claimed number)) × Leads seat (next (Some number)) rest last)
+    ((number : ℕ) × (told ≡ Event (event.Claimed (again number))) × Leads seat (next (Some number)) rest last)
     ⊎ ((told ≡ Event event.Absent) × Leads seat (next None) rest last)
 unfolding on go_on
-claimed seat next (Event (event.Claimed number)) rest last p a = inl (number, refl, a)
+claimed seat next (Event (event.Claimed given)) rest last p a = inl (given.number, refl, a)
 claimed seat next (Event event.Absent) rest last p a = inr (refl, a)
 claimed seat next told rest last p a = absurd (refused_none seat told rest last p a)
 
@@ -104,7 +109,7 @@ inserted : (seat : HostSeat) (next : ℕ → RequestTree) (told : ActReply) (res
     (number : ℕ) × InsertionGives number told × Leads seat (next number) rest last
 unfolding on go_on
 inserted seat next (Event (event.Inserted number)) rest last p a = (number, inl refl, a)
-inserted seat next (Event (event.Found number)) rest last p a = (number, inr refl, a)
+inserted seat next (Event (event.Found given)) rest last p a = (given.number, inr refl, a)
 inserted seat next told rest last p a = absurd (refused_none seat told rest last p a)
 
 -- the number of what is open there was had by the first of these steps
@@ -131,13 +136,13 @@ unfolding on go_on
 gave seat session fd told next steps last p a =
     let inserts : ℕ → RequestTree = λ fresh. insert session fresh (File fd) told next in
     let given : Option ℕ → RequestTree = λ given. numbered_as session (File fd) told given next in
-    let asks = change.Claim session.era None told.ids in
+    let asks = claiming session.era told in
     let c = goes_on seat (Changes asks) (on claimed_in given) steps last refl
     (none_told asks (λ t. refl)) p a in
     elim (claimed seat given c.told c.rest last p c.on) [
       | inl k ↦ record {
         number = k.0;
-        own = made (Changes asks) (Event (event.Claimed k.0)) ∷ [];
+        own = made (Changes asks) (Event (event.Claimed (again k.0))) ∷ [];
         rest = c.rest;
         are = then_step c.are k.1 refl;
         gives = inl refl;
@@ -150,7 +155,7 @@ gave seat session fd told next steps last p a =
           let d = goes_on seat (Changes change.DrawNode) (on drawn_in inserts) t.rest last refl
           (none_told change.DrawNode (λ t. refl)) p slot.1 in
           let fresh = drawn seat inserts d.told d.rest last p d.on in
-          let adds = change.Insert session.era fresh.0 (File fd) told.ids told.mode in
+          let adds = adding session.era fd told fresh.0 in
           let i = goes_on seat (Changes adds) (on numbered_in next) d.rest last refl (none_told adds (λ t. refl)) p
           fresh.2 in
           let given = inserted seat next i.told i.rest last p i.on in record {
@@ -210,13 +215,16 @@ looks seat plan session parent name next steps last p a =
     (none_told asks (λ t. refl)) p
     (in_bracket seat (resolve parent (resolving plan session name next)) steps last a) in
     let k = resolved seat (resolving plan session name next) r.told r.rest last p r.on in
-    go k.0 k.1 k.2 k.3 r.rest (then_step r.are k.4 refl) k.5
+    go k.0 r.rest (then_step r.are k.1 refl)
+    (filed seat k.0.form (opening plan session k.0.ids name next) r.rest last k.2)
   where
-    go : (row : ℕ) (form : RowForm) (ids : ObjIds) (mode : ℕ) (rest : List Step) →
-        steps ≡ made (Changes (change.Resolve parent)) (Event (event.Resolved row form ids mode)) ∷ rest →
-        Leads seat (file_of form (opening plan session ids name next)) rest last →
+    go : (row : Resolved) (rest : List Step) →
+        steps ≡ made (Changes (change.Resolve parent)) (Event (event.Resolved row)) ∷ rest →
+        Leads seat (opening plan session row.ids name next (fd_of row.form)) rest last →
         Looks seat plan session parent name next steps last
-    go row (File dir) ids mode rest e a =
+    go row rest e a =
+        let dir = fd_of row.form in
+        let ids = row.ids in
         let o = goes_on seat (Calls (call.OpenAt dir name by_path 0)) (on fd_in (stating plan session ids next)) rest
         last refl (λ t. refl) p a in
         let fd = opened seat (stating plan session ids next) o.told o.rest last p o.on in
@@ -226,16 +234,13 @@ looks seat plan session parent name next steps last p a =
         let given = gave seat session fd.0 was.0 (handing plan session ids next fd.0 was.0) s.rest last p was.2 in
         record {
           looked = looked_of plan session ids was.0 given.number;
-          own = made (Changes (change.Resolve parent)) (Event (event.Resolved row (File dir) ids mode))
+          own = made (Changes (change.Resolve parent)) (Event (event.Resolved row))
               ∷ made (Calls (call.OpenAt dir name by_path 0)) (Host (host.Ok (value.Fd fd.0)))
               ∷ made (Calls (call.Stat fd.0)) (Host (host.Ok (value.Stat was.0))) ∷ given.own;
           rest = given.rest;
           are = then_step e refl (then_step o.are fd.1 (then_step s.are was.1 given.are));
           by = record {
-            row = row;
-            form = File dir;
-            ids = ids;
-            mode = mode;
+            resolved = row;
             fd = fd.0;
             stat = was.0;
             giving = given.own;

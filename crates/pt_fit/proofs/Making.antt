@@ -17,8 +17,6 @@ use Rattle.pt_creds.specs.Identity.{Credentials}
 use Rattle.pt_creds.specs.Steps.{cred_steps}
 use Rattle.pt_session.specs.declared.event.KeptEvent.TheVariants as change
 use Rattle.pt_session.specs.declared.form.Negotiated.{Negotiated}
-use Rattle.pt_session.specs.declared.form.RowForm.{RowForm}
-use Rattle.pt_session.specs.declared.form.RowForm.TheVariants.{File}
 use Rattle.pt_session.specs.declared.reply.EventReply.TheVariants as event
 use Rattle.pt_iface.specs.declared.answer.Answer.{Answer}
 use Rattle.pt_iface.specs.declared.answer.Answer.TheVariants as answer
@@ -42,7 +40,7 @@ use Rattle.pt_req.specs.Parts.{file_of, handled, look_up, named, open_num}
 use Rattle.pt_req.specs.Requests.{file_asked}
 use Rattle.pt_req.specs.Steps.{begin, began_in, is_there, made_in, make_at}
 use Rattle.pt_req.specs.Steps.{resolve, resolved_in, session_of, stat_in}
-use Rattle.pt_req.specs.declared.replies.Resolved.{Resolved}
+use Rattle.pt_session.specs.declared.reply.Resolved.{Resolved}
 use Rattle.pt_req.specs.declared.begun.BegunSession.{BegunSession}
 use Rattle.pt_req.specs.declared.replies.Made.{Made}
 use Rattle.pt_req.specs.declared.replies.Made.TheVariants.{Old}
@@ -51,6 +49,7 @@ use Rattle.pt_req.specs.declared.plan.Plan.{Plan}
 use Rattle.pt_job.specs.Pattern.{grammar_of}
 use Rattle.pt_law.specs.Making.{MakesNew, stating}
 use Rattle.pt_law.specs.Naming.{made, opening, resolving}
+use Rattle.pt_law.specs.World.{fd_of}
 use Rattle.pt_fit.specs.Created.{MakesNone}
 use Rattle.pt_fit.specs.Opened.{IsLookedUp}
 use Rattle.pt_fit.proofs.Coming.{Comes, bare_comes, labelled_comes, taken_comes}
@@ -60,7 +59,7 @@ use Rattle.pt_fit.proofs.Handling.{Inserted, InsertedNew, answers, each_join, in
 use Rattle.pt_fit.proofs.Handling.{opened_num_along, same_along}
 use Rattle.pt_fit.proofs.Leading.{HasEntry, IsStill, Leads, given_none, goes_on}
 use Rattle.pt_fit.proofs.Leading.{none_told, on_branch, refused_none, replied}
-use Rattle.pt_fit.proofs.Looking.{began, good_named, looks, resolved, stated, then_step}
+use Rattle.pt_fit.proofs.Looking.{began, filed, good_named, looks, resolved, stated, then_step}
 use Rattle.pt_fit.proofs.Still.{all_still_make, unmade}
 
 -- what follows a lookup of what was made, and of what was there
@@ -301,15 +300,12 @@ pub record CreatedBy
     : Type 0 where
   pub era : ℕ
   pub agreed : Negotiated
-  pub row : ℕ
-  pub form : RowForm
-  pub ids : ObjIds
-  pub mode : ℕ
+  pub resolved : Resolved
   pub before : List Step
   pub own : List Step
   pub back : List Step
   pub all : steps ≡ made (Changes change.Begin) (Event (event.Began era agreed))
-      ∷ ((resolving parent row form ids mode ∷ before) ++ (own ++ back))
+      ∷ ((resolving parent resolved ∷ before) ++ (own ++ back))
   pub looked_up : IsLookedUp plan era agreed parent name entry own
   pub way : NewWay name looked_up.stat.ids entry.inode handle before back ⊎ OldWay entry.inode handle before back
 
@@ -322,13 +318,13 @@ behind_two first to past rest a b =
 
 -- what stands behind the parent's resolving
 module _ (plan : Plan) (seat : HostSeat) (session : BegunSession) (asked : FileAsked) (entry : Entry) (handle : ℕ)
-    (options : OpenOptions) (row mode : ℕ) (form : RowForm) (ids : ObjIds) (steps : List Step) where
+    (options : OpenOptions) (row : Resolved) (steps : List Step) where
   abbrev created : Answer
   created = answer.Created entry handle options
 
   abbrev begun : List Step → List Step
   begun rest = made (Changes change.Begin) (Event (event.Began session.era session.agreed))
-      ∷ resolving asked.parent row form ids mode ∷ rest
+      ∷ resolving asked.parent row ∷ rest
 
   new_created : (rest : List Step) → steps ≡ begun rest → MadeNew plan seat session asked created rest →
       CreatedBy plan asked.parent asked.name entry handle steps
@@ -350,10 +346,7 @@ module _ (plan : Plan) (seat : HostSeat) (session : BegunSession) (asked : FileA
       let by : CreatedBy plan asked.parent asked.name found.looked.entry handle steps = record {
         era = session.era;
         agreed = session.agreed;
-        row = row;
-        form = form;
-        ids = ids;
-        mode = mode;
+        resolved = row;
         before = n.first ++ a ∷ (file.to_stat ++ t ∷ file.past_stat);
         own = found.own;
         back = found.rest;
@@ -394,10 +387,7 @@ module _ (plan : Plan) (seat : HostSeat) (session : BegunSession) (asked : FileA
       let by : CreatedBy plan asked.parent asked.name found.looked.entry handle steps = record {
         era = session.era;
         agreed = session.agreed;
-        row = row;
-        form = form;
-        ids = ids;
-        mode = mode;
+        resolved = row;
         before = o.front;
         own = found.own;
         back = found.rest;
@@ -433,14 +423,14 @@ created_parts plan seat who parent name mode kill flags umask ext entry handle o
     in_parent : BegunSession → Resolved → RequestTree
     in_parent session directory = file_of directory.form (in_dir session)
 
-    form_found : (session : BegunSession) (row its_mode : ℕ) (form : RowForm) (ids : ObjIds) (rest : List Step) →
+    dir_found : (session : BegunSession) (row : Resolved) (rest : List Step) →
         steps ≡ made (Changes change.Begin) (Event (event.Began session.era session.agreed))
-        ∷ resolving parent row form ids its_mode ∷ rest →
-        Leads seat (file_of form (in_dir session)) rest last → CreatedBy plan parent name entry handle steps
-    form_found session row its_mode (File dir) ids rest e l =
-        elim (file_found plan seat session file last refl dir rest l) [
-          | inl n ↦ new_created plan seat session file entry handle options row its_mode (File dir) ids steps rest e n
-          | inr o ↦ old_created plan seat session file entry handle options row its_mode (File dir) ids steps rest e o
+        ∷ resolving parent row ∷ rest →
+        Leads seat (in_dir session (fd_of row.form)) rest last → CreatedBy plan parent name entry handle steps
+    dir_found session row rest e l =
+        elim (file_found plan seat session file last refl (fd_of row.form) rest l) [
+          | inl n ↦ new_created plan seat session file entry handle options row steps rest e n
+          | inr o ↦ old_created plan seat session file entry handle options row steps rest e o
         ]
 
     begins : BegunSession → RequestTree
@@ -457,7 +447,8 @@ created_parts plan seat who parent name mode kill flags umask ext entry handle o
         (none_told asks (λ t. refl)) refl
         (good_named seat name (resolve parent (in_parent this)) g.rest last refl k.3) in
         let d = resolved seat (in_parent this) r.told r.rest last refl r.on in
-        form_found this d.0 d.3 d.1 d.2 r.rest (then_step g.are k.2 (then_step r.are d.4 refl)) d.5
+        dir_found this d.0 r.rest (then_step g.are k.2 (then_step r.are d.1 refl))
+        (filed seat d.0.form (in_dir this) r.rest last d.2)
 
 -- it began, and came by some steps to those of a lookup
 pub created_by : (plan : Plan) (seat : HostSeat) (who : Context) (parent : ℕ) (name : List ℕ) (mode : ℕ) (kill : Bool)
@@ -469,4 +460,4 @@ pub created_by : (plan : Plan) (seat : HostSeat) (who : Context) (parent : ℕ) 
     × IsLookedUp plan era agreed parent name entry own
 created_by plan seat who parent name mode kill flags umask ext entry handle options steps b =
     let c = created_parts plan seat who parent name mode kill flags umask ext entry handle options steps b in
-    (c.era, c.agreed, resolving parent c.row c.form c.ids c.mode ∷ c.before, c.own, c.back, c.all, c.looked_up)
+    (c.era, c.agreed, resolving parent c.resolved ∷ c.before, c.own, c.back, c.all, c.looked_up)

@@ -5,7 +5,6 @@ use Rattle.std.specs.List.{list_any}
 use Rattle.pt_host.specs.Call.{Call}
 use Rattle.pt_host.specs.Errno.{eopnotsupp, eperm}
 use Rattle.pt_host.specs.declared.ids.Fd.{Fd}
-use Rattle.pt_host.specs.declared.ids.ObjIds.{ObjIds}
 use Rattle.pt_host.specs.declared.op.KeptHostOp.TheVariants as call
 use Rattle.pt_host.specs.declared.reply.HostReply.TheVariants as host
 use Rattle.pt_host.specs.declared.reply.HostValue.TheVariants as value
@@ -14,8 +13,6 @@ use Rattle.pt_creds.specs.Identity.{Credentials}
 use Rattle.pt_creds.specs.Steps.{cred_steps}
 use Rattle.pt_session.specs.declared.event.KeptEvent.TheVariants as change
 use Rattle.pt_session.specs.declared.form.Negotiated.{Negotiated}
-use Rattle.pt_session.specs.declared.form.RowForm.{RowForm}
-use Rattle.pt_session.specs.declared.form.RowForm.TheVariants.{File}
 use Rattle.pt_session.specs.declared.reply.EventReply.TheVariants as event
 use Rattle.pt_iface.specs.declared.answer.Answer.{Answer}
 use Rattle.pt_iface.specs.declared.answer.Answer.TheVariants as answer
@@ -34,7 +31,7 @@ use Rattle.pt_req.specs.Creating.{undone}
 use Rattle.pt_req.specs.Parts.{by_path, file_of, look_up, named}
 use Rattle.pt_req.specs.Steps.{begin, began_in, ok_in, or_refused, refused_in, resolve, resolved_in, session_of}
 use Rattle.pt_req.specs.Steps.{set_xattr, tried_in}
-use Rattle.pt_req.specs.declared.replies.Resolved.{Resolved}
+use Rattle.pt_session.specs.declared.reply.Resolved.{Resolved}
 use Rattle.pt_req.specs.declared.begun.BegunSession.{BegunSession}
 use Rattle.pt_req.specs.declared.parts.looked.Looked.{Looked}
 use Rattle.pt_req.specs.declared.plan.Plan.{Plan}
@@ -42,13 +39,14 @@ use Rattle.pt_attr.specs.Making.{ObjectAsked, is_nul, kept_at, label_at, labelle
 use Rattle.pt_attr.specs.Making.{targeted}
 use Rattle.pt_attr.specs.Steps.{make, opened_in, try_open_at}
 use Rattle.pt_law.specs.Naming.{made, resolving}
+use Rattle.pt_law.specs.World.{fd_of}
 use Rattle.pt_fit.specs.Opened.{IsLookedUp}
 use Rattle.pt_fit.proofs.ObjectKinds.{Kind, Directory, Link, Node, make_kind, make_named, making_call, targeted_as}
 use Rattle.pt_fit.proofs.ObjectKinds.{unmaking_call}
 use Rattle.pt_fit.proofs.Coming.{bare_comes, set_on, taken_comes, tried_on}
 use Rattle.pt_fit.proofs.Leading.{HasEntry, Leads, given_none, goes_on, in_bracket, none_told, refused_none, replied}
 use Rattle.pt_fit.proofs.Leading.{shut_none, shuts_on}
-use Rattle.pt_fit.proofs.Looking.{began, good_name, good_named, looks, resolved, then_step}
+use Rattle.pt_fit.proofs.Looking.{began, filed, good_name, good_named, looks, resolved, then_step}
 
 -- By some steps the job comes to this tree.
 record Reaches (seat : HostSeat) (last : Answer) (tree : RequestTree) (steps : List Step) : Type 0 where
@@ -256,13 +254,13 @@ made_by plan seat object its entry steps b = found (record { holds = []; marks =
               IsLookedUp plan session.era session.agreed object.parent object.name one f.own) same f.by,
         )
 
-    form_found : (session : BegunSession) (row mode : ℕ) (form : RowForm) (ids : ObjIds) (rest : List Step) →
+    dir_found : (session : BegunSession) (row : Resolved) (rest : List Step) →
         steps ≡ made (Changes change.Begin) (Event (event.Began session.era session.agreed))
-        ∷ resolving object.parent row form ids mode ∷ rest →
-        Leads seat (file_of form (in_dir session)) rest last → Found
-    form_found session row mode (File dir) ids rest e l =
-        let r = kind_reaches plan seat session object its dir last refl rest l in
-        let a = resolving object.parent row (File dir) ids mode in
+        ∷ resolving object.parent row ∷ rest →
+        Leads seat (in_dir session (fd_of row.form)) rest last → Found
+    dir_found session row rest e l =
+        let r = kind_reaches plan seat session object its (fd_of row.form) last refl rest l in
+        let a = resolving object.parent row in
         let begun = made (Changes change.Begin) (Event (event.Began session.era session.agreed)) in
         looked session (a ∷ r.front) r.rest (e ∙ ap (λ (z : List Step). begun ∷ a ∷ z) r.are) r.on
 
@@ -282,4 +280,5 @@ made_by plan seat object its entry steps b = found (record { holds = []; marks =
         (target_good seat its tree g.rest last refl
         (good_named seat object.name (targeted_as its tree) g.rest last refl k.3)) in
         let d = resolved seat (in_parent this) r.told r.rest last refl r.on in
-        form_found this d.0 d.3 d.1 d.2 r.rest (then_step g.are k.2 (then_step r.are d.4 refl)) d.5
+        dir_found this d.0 r.rest (then_step g.are k.2 (then_step r.are d.1 refl))
+        (filed seat d.0.form (in_dir this) r.rest last d.2)

@@ -25,12 +25,12 @@ use Rattle.pt_frame.specs.declared.act.ActReply.{ActReply}
 use Rattle.pt_frame.specs.declared.act.ActReply.TheVariants.{Event, Host}
 use Rattle.pt_frame.specs.declared.hold.Hold.{Hold}
 use Rattle.pt_frame.specs.declared.hold.Hold.TheVariants as hold
-use Rattle.pt_req.specs.declared.replies.Resolved.{Resolved}
+use Rattle.pt_session.specs.declared.reply.Resolved.{Resolved}
 use Rattle.pt_req.specs.Steps.{session_of, begin, clear, resolve, open_root, open_at, reopen, stat}
 use Rattle.pt_req.specs.Steps.{claim, take_fd, draw_node, draw_handle, insert, insert_root, insert_handle, pin_handle}
 use Rattle.pt_req.specs.Entries.{is_bad_name, is_bad_offset}
 use Rattle.pt_req.specs.Parts.{file_of, named, placed}
-use Rattle.pt_req.specs.Steps.{forget_all, release_handle}
+use Rattle.pt_req.specs.Steps.{forget_all, release_handle, claim_of, new_row_of, new_root_of, new_handle_of}
 use Rattle.pt_req.specs.declared.begun.BegunSession.{BegunSession}
 use Rattle.pt_law.specs.Discipline.{Notes, with_root, unnoted, found_by, given_for, with_given, KnowsAll, PinsLatest}
 use Rattle.pt_law.specs.Discipline.{at_job, newly, told_as, told_of}
@@ -188,7 +188,7 @@ IsToldLast notes fd ids = (told_of notes.told fd ≡ Some ids) × (notes.brought
 -- the step that resolved it so
 abbrev pub resolution : ℕ → Resolved → Step
 resolution number row =
-    made (Changes (change.Resolve number)) (Event (event.Resolved row.row row.form row.ids row.mode))
+    made (Changes (change.Resolve number)) (Event (event.Resolved row))
 
 -- what is noted where a number was resolved
 abbrev pub noting : ℕ → ℕ → Notes → Notes
@@ -209,11 +209,11 @@ fit_resolve_over {asked = asked} {holds = holds} dropped number next b f = recor
   on = λ path s. (
     (tt, tt),
     elim [
-      | Event (event.Resolved row form ids mode) ↦
-          λ m. held_as asked (next (record { row = row; form = form; ids = ids; mode = mode })) _ _ _ _ _
-          (laid_over dropped (hold.Pin row (row_fd form)) holds
-          ∙ ap (λ (z : List Hold). over dropped z) (b (hold.Pin row (row_fd form))))
-          ((f (record { row = row; form = form; ids = ids; mode = mode })).on path s)
+      | Event (event.Resolved resolved) ↦
+          λ m. held_as asked (next resolved) _ _ _ _ _
+          (laid_over dropped (hold.Pin resolved.row (row_fd resolved.form)) holds
+          ∙ ap (λ (z : List Hold). over dropped z) (b (hold.Pin resolved.row (row_fd resolved.form))))
+          ((f resolved).on path s)
       | told ↦ λ m. refused_by asked (Changes (change.Resolve number)) told (over dropped holds) path tt m (λ no. no)
     ],
   );
@@ -325,9 +325,10 @@ fit_claim {asked = asked} {holds = holds} session fd ids next e l t f g = record
   on = λ path s. (
     (tt, (fd, e, l, (_, here, t.0, t.1))),
     elim [
-      | Event (event.Claimed number) ↦ λ m. (f number).on _ (still s)
+      | Event (event.Claimed given) ↦ λ m. (f given.number).on _ (still s)
       | Event event.Absent ↦ λ m. g.on _ (still s)
-      | told ↦ λ m. refused_by asked (Changes (change.Claim session.era None ids)) told holds path tt m (λ no. no)
+      | told ↦ λ m. refused_by asked (Changes (change.Claim (claim_of session.era None ids))) told holds path tt m
+          (λ no. no)
     ],
   );
 }
@@ -398,9 +399,9 @@ fit_insert {asked = asked} {holds = holds} session fresh fd told next b e l d t 
           λ m. held_as asked (next number) _ _ _ _ _
           (ap (laid (hold.Count session.era number)) (handed_top fd holds)
           ∙ b (hold.Count session.era number)) ((f number).on _ (still s))
-      | Event (event.Found number) ↦ λ m. (g number).on _ (still s)
+      | Event (event.Found given) ↦ λ m. (g given.number).on _ (still s)
       | reply ↦ λ m. refused_by asked
-          (Changes (change.Insert session.era fresh (File fd) told.ids told.mode)) reply
+          (Changes (change.Insert (new_row_of session.era fresh (File fd) told))) reply
           (hold.Fd fd ∷ hold.Slot ∷ holds) path lies m (λ no. no)
     ],
   );
@@ -420,7 +421,7 @@ fit_insert_root {asked = asked} {holds = holds} session fd told agreed next e r 
       | Event (event.Inserted number) ↦
           λ m. held_as asked next _ _ _ _ _ (handed_top fd holds) (f.on _ (still s))
       | reply ↦ λ m. refused_by asked
-          (Changes (change.InsertRoot session.era (File fd) told.ids told.mode agreed)) reply
+          (Changes (change.InsertRoot (new_root_of session.era (File fd) told agreed))) reply
           (hold.Fd fd ∷ hold.Slot ∷ holds) path lies m (λ no. no)
     ],
   );
@@ -439,7 +440,7 @@ fit_insert_handle {asked = asked} {holds = holds} session handle number row fd n
     (lies, (e, h, inl (row, r, o))),
     elim [
       | Event (event.Inserted given) ↦ λ m. held_as asked next _ _ _ _ _ (handed_top fd holds) (f.on _ (still s))
-      | reply ↦ λ m. refused_by asked (Changes (change.InsertHandle session.era handle number fd)) reply
+      | reply ↦ λ m. refused_by asked (Changes (change.InsertHandle (new_handle_of session.era handle number fd))) reply
           (hold.Fd fd ∷ hold.Slot ∷ holds) path lies m (λ no. no)
     ],
   );
@@ -550,7 +551,7 @@ fit_insert_given {asked = asked} {holds = holds} session handle era number fd id
       | Event (event.Inserted given) ↦
           λ m. held_as asked next _ _ _ _ _
           (ap (λ (z : List Hold). hold.Count era number ∷ z) (handed_top fd holds)) (f.on _ (still s))
-      | reply ↦ λ m. refused_by asked (Changes (change.InsertHandle session.era handle number fd)) reply
+      | reply ↦ λ m. refused_by asked (Changes (change.InsertHandle (new_handle_of session.era handle number fd))) reply
           (hold.Count era number ∷ hold.Fd fd ∷ hold.Slot ∷ holds) path (under refl lies) m
           (λ no. no)
     ],

@@ -59,7 +59,7 @@ module _ (decided : Option Negotiated) where
 
   deed_says : (dropped : Bool) (deed : Deed) → OfDeed SaysSo dropped deed → Says decided deed
   deed_says dropped (Calls asked) may = tt
-  deed_says dropped (Changes (change.InsertRoot era form ids mode said)) may = may
+  deed_says dropped (Changes (change.InsertRoot new)) may = may
   deed_says dropped (Changes asked) may = tt
 
   in_scope : (told : ActReply) (tree : RequestTree) → InScope SaysSo true Saying told tree → Saying tree
@@ -125,8 +125,8 @@ module _ (decided : Option Negotiated) where
 -- `init` alone says what it decides
 of_said : (plan : Plan) (seat : HostSeat) (who : Context) (asked : Request) →
     OfScopes (SaysSo (decides plan (Requests who asked))) plan seat asked
-of_said plan seat who (request.Init capable) = λ era form ids mode. refl
-of_said plan seat who request.Root = λ era form ids mode. refl
+of_said plan seat who (request.Init capable) = λ era form told. refl
+of_said plan seat who request.Root = λ era form told. refl
 of_said plan seat who (request.Open inode kill flags) = λ fd how. tt
 of_said plan seat who (request.OpenDir inode flags) = λ fd how. tt
 of_said plan seat who (request.Create parent name mode kill flags umask ext) = λ fd how. tt

@@ -243,8 +243,8 @@ none_dropped false has = refl
 
 of_scopes : (plan : Plan) (seat : HostSeat) (who : Context) (asked : Request) →
     OfScopes (LacksSo (role_in plan seat who asked)) plan seat asked
-of_scopes plan seat who (request.Init capable) = λ era form ids mode. tt
-of_scopes plan seat who request.Root = λ era form ids mode. tt
+of_scopes plan seat who (request.Init capable) = λ era form told. tt
+of_scopes plan seat who request.Root = λ era form told. tt
 of_scopes plan seat who (request.Open inode kill flags) = λ fd how. refl
 of_scopes plan seat who (request.OpenDir inode flags) = λ fd how.
     none_dropped plan.config.killpriv_v2 (includes seat.eff_caps.0 fsetid.0)

@@ -97,20 +97,20 @@ caused asked made told = heeded made asked.request
 abbrev pub refused_as : Change → EventRefusal → Option Errno
 refused_as (change.Resolve number) NotLive = Some ebadf
 refused_as (change.Resolve number) Last = Some eoverflow
-refused_as (change.Claim era handle ids) Overtaken = Some ebadf
-refused_as (change.Claim era handle ids) Last = Some eoverflow
+refused_as (change.Claim claim) Overtaken = Some ebadf
+refused_as (change.Claim claim) Last = Some eoverflow
 refused_as change.TakeFd NoSlot = Some enfile
 refused_as change.DrawNode Last = Some eoverflow
-refused_as (change.Insert era number form ids mode) Overtaken = Some ebadf
-refused_as (change.Insert era number form ids mode) Last = Some eoverflow
-refused_as (change.Insert era number form ids mode) Live = Some eio
-refused_as (change.InsertRoot era form ids mode agreed) Overtaken = Some ebadf
-refused_as (change.InsertRoot era form ids mode agreed) Last = Some eoverflow
-refused_as (change.InsertRoot era form ids mode agreed) Live = Some eio
+refused_as (change.Insert new) Overtaken = Some ebadf
+refused_as (change.Insert new) Last = Some eoverflow
+refused_as (change.Insert new) Live = Some eio
+refused_as (change.InsertRoot new) Overtaken = Some ebadf
+refused_as (change.InsertRoot new) Last = Some eoverflow
+refused_as (change.InsertRoot new) Live = Some eio
 refused_as change.DrawHandle Last = Some eoverflow
-refused_as (change.InsertHandle era handle number fd) Overtaken = Some ebadf
-refused_as (change.InsertHandle era handle number fd) Last = Some eoverflow
-refused_as (change.InsertHandle era handle number fd) Live = Some eio
+refused_as (change.InsertHandle new) Overtaken = Some ebadf
+refused_as (change.InsertHandle new) Last = Some eoverflow
+refused_as (change.InsertHandle new) Live = Some eio
 refused_as (change.PinHandle handle number) NotLive = Some ebadf
 refused_as (change.PinHandle handle number) Last = Some eoverflow
 refused_as (change.Release handle number) NotLive = Some ebadf
@@ -137,8 +137,8 @@ Shows asked (Some (Calls made)) (Host (host.Fault errno)) cause = caused asked m
 Shows asked (Some (Changes made)) (Event (Refused why)) cause = refused_as made why ≡ Some cause
 Shows asked (Some (Changes change.Begin)) (Event (Began era agreed)) cause =
     BlocksLabel agreed asked.request × (cause ≡ eopnotsupp)
-Shows asked (Some (Changes (change.Resolve number))) (Event (Resolved row form ids mode)) cause =
-    OpensFile asked.request × (can_open mode ≡ false) × (cause ≡ ebadf)
+Shows asked (Some (Changes (change.Resolve number))) (Event (Resolved resolved)) cause =
+    OpensFile asked.request × (can_open resolved.mode ≡ false) × (cause ≡ ebadf)
 Shows asked made told cause = ⊥
 
 -- one of the steps shows it

@@ -35,8 +35,8 @@ pub record EntryPlaces
   pub looked_up : IsLookedUp plan era agreed parent name entry own
   pub given : GivingPlaces turns job parent name entry.inode looked_up.stat.ids
   -- these are the places of the lookup's own steps
-  pub same_row : given.opened.row ≡ looked_up.row
-  pub same_dir : given.opened.dir ≡ fd_of looked_up.form
+  pub same_row : given.opened.resolved.row ≡ looked_up.resolved.row
+  pub same_dir : given.opened.dir ≡ fd_of looked_up.resolved.form
   pub same_fd : given.opened.fd ≡ looked_up.fd
   -- with what came before them, nothing between the resolving and the opening, and what came behind them
   pub same_front : steps_of job given.opened.before

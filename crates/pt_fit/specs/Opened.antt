@@ -1,42 +1,55 @@
 -- Believed. The steps by which a lookup came to its entry.
 use Rattle.std.specs.Prelude.{◌≡◌, ◌⊎◌, ℕ, List, [], ◌∷◌, None}
 use Rattle.pt_host.specs.declared.ids.Fd.{Fd}
-use Rattle.pt_host.specs.declared.ids.ObjIds.{ObjIds}
 use Rattle.pt_host.specs.declared.stat.Stat.{Stat}
 use Rattle.pt_host.specs.declared.op.KeptHostOp.TheVariants as call
 use Rattle.pt_host.specs.declared.reply.HostReply.TheVariants as host
 use Rattle.pt_host.specs.declared.reply.HostValue.TheVariants as value
-use Rattle.pt_session.specs.declared.form.RowForm.{RowForm}
+use Rattle.pt_session.specs.Change.{Change}
 use Rattle.pt_session.specs.declared.form.RowForm.TheVariants.{File}
 use Rattle.pt_session.specs.declared.form.Negotiated.{Negotiated}
 use Rattle.pt_session.specs.declared.event.KeptEvent.TheVariants as change
+use Rattle.pt_session.specs.declared.reply.GivenNumber.{GivenNumber}
+use Rattle.pt_session.specs.declared.reply.Resolved.{Resolved}
 use Rattle.pt_session.specs.declared.reply.EventReply.TheVariants as event
 use Rattle.pt_iface.specs.declared.entry.Entry.{Entry}
 use Rattle.pt_frame.specs.Deed.{Calls, Changes, Step}
 use Rattle.pt_req.specs.Entries.{entry_of}
 use Rattle.pt_req.specs.Parts.{by_path}
+use Rattle.pt_req.specs.Steps.{claim_of, new_row_of}
 use Rattle.pt_frame.specs.declared.act.ActReply.{ActReply}
 use Rattle.pt_frame.specs.declared.act.ActReply.TheVariants.{Event, Host}
 use Rattle.pt_req.specs.declared.plan.Plan.{Plan}
 use Rattle.pt_law.specs.World.{fd_of}
-use Rattle.pt_law.specs.Naming.{made}
+use Rattle.pt_law.specs.Naming.{made, resolving}
+
+-- what is open there is claimed, and inserted
+abbrev pub claiming : ℕ → Stat → Change
+claiming era stat = change.Claim (claim_of era None stat.ids)
+
+abbrev pub adding : ℕ → Fd → Stat → ℕ → Change
+adding era fd stat fresh = change.Insert (new_row_of era fresh (File fd) stat)
+
+-- a number was given once more
+abbrev pub again : ℕ → GivenNumber
+again number = record { number = number }
 
 -- no number was found at first: a slot was taken and a number drawn, and this is what the insertion was answered
 abbrev pub inserting : ℕ → Fd → Stat → ℕ → ActReply → List Step
 inserting era fd stat fresh told =
-    made (Changes (change.Claim era None stat.ids)) (Event event.Absent)
+    made (Changes (claiming era stat)) (Event event.Absent)
     ∷ made (Changes change.TakeFd) (Event event.Taken)
     ∷ made (Changes change.DrawNode) (Event (event.Drawn fresh))
-    ∷ made (Changes (change.Insert era fresh (File fd) stat.ids stat.mode)) told ∷ []
+    ∷ made (Changes (adding era fd stat fresh)) told ∷ []
 
 -- the insertion gave this number: it was new, or another job's insertion of the same object came first
 abbrev pub InsertionGives : ℕ → ActReply → Type 0
-InsertionGives number told = (told ≡ Event (event.Inserted number)) ⊎ (told ≡ Event (event.Found number))
+InsertionGives number told = (told ≡ Event (event.Inserted number)) ⊎ (told ≡ Event (event.Found (again number)))
 
 -- by these steps, the last of which gives it, the number of what is open there was had
 abbrev pub Numbers : ℕ → Fd → Stat → ℕ → List Step → Type 0
 Numbers era fd stat number steps =
-    (steps ≡ made (Changes (change.Claim era None stat.ids)) (Event (event.Claimed number)) ∷ [])
+    (steps ≡ made (Changes (claiming era stat)) (Event (event.Claimed (again number))) ∷ [])
     ⊎ ((fresh : ℕ) × (told : ActReply) × InsertionGives number told × (steps ≡ inserting era fd stat fresh told))
 
 -- In a session that began so the parent was resolved, the name was opened in the directory of its row, the status of
@@ -50,17 +63,14 @@ pub record IsLookedUp
     (entry : Entry)
     (steps : List Step)
     : Type 0 where
-  pub row : ℕ
-  pub form : RowForm
-  pub ids : ObjIds
-  pub mode : ℕ
+  pub resolved : Resolved
   pub fd : Fd
   pub stat : Stat
   pub giving : List Step
   pub in_turn : steps ≡
-      made (Changes (change.Resolve parent)) (Event (event.Resolved row form ids mode))
-      ∷ made (Calls (call.OpenAt (fd_of form) name by_path 0)) (Host (host.Ok (value.Fd fd)))
+      resolving parent resolved
+      ∷ made (Calls (call.OpenAt (fd_of resolved.form) name by_path 0)) (Host (host.Ok (value.Fd fd)))
       ∷ made (Calls (call.Stat fd)) (Host (host.Ok (value.Stat stat)))
       ∷ giving
   pub numbered : Numbers era fd stat entry.inode giving
-  pub told : entry ≡ entry_of plan agreed ids stat entry.inode
+  pub told : entry ≡ entry_of plan agreed resolved.ids stat entry.inode

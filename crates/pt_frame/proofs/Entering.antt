@@ -279,12 +279,12 @@ asked_spares tree wanted opens reply told acts room rows asks is = absurd asks
 
 -- a row that is told of is one that the change may bring
 added_rows : (asked : Change) (reply : EventReply) → added_by asked reply ≤ rows_in (change_brings asked)
-added_rows (change.Insert era number form ids mode) (event.Inserted given) = omega arith
-added_rows (change.Insert era number form ids mode) reply = omega arith
-added_rows (change.InsertRoot era form ids mode agreed) (event.Inserted given) = omega arith
-added_rows (change.InsertRoot era form ids mode agreed) reply = omega arith
-added_rows (change.InsertHandle era handle number fd) (event.Inserted given) = omega arith
-added_rows (change.InsertHandle era handle number fd) reply = omega arith
+added_rows (change.Insert new) (event.Inserted given) = omega arith
+added_rows (change.Insert new) reply = omega arith
+added_rows (change.InsertRoot new) (event.Inserted given) = omega arith
+added_rows (change.InsertRoot new) reply = omega arith
+added_rows (change.InsertHandle new) (event.Inserted given) = omega arith
+added_rows (change.InsertHandle new) reply = omega arith
 added_rows asked reply = omega arith
 
 inserts_rows : (deed : Deed) (reply : ActReply) → inserted_by deed reply ≤ rows_in (brings_of deed)

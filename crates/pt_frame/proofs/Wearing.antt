@@ -197,20 +197,20 @@ wears_called seat Plain told holds worn w = w
 
 wears_changed : (seat : HostSeat) (asked : Change) (told : EventReply) (holds : List Hold) (worn : List Call) →
     Wears seat holds worn → Wears seat (held_changed asked told holds) worn
-wears_changed seat (change.Resolve number) (event.Resolved row form ids mode) holds worn w =
-    wears_laid seat (hold.Pin row (row_fd form)) holds worn refl w
-wears_changed seat (change.Claim era handle ids) (event.Claimed given) holds worn w =
-    wears_laid seat (hold.Count era given) holds worn refl w
+wears_changed seat (change.Resolve number) (event.Resolved resolved) holds worn w =
+    wears_laid seat (hold.Pin resolved.row (row_fd resolved.form)) holds worn refl w
+wears_changed seat (change.Claim claim) (event.Claimed given) holds worn w =
+    wears_laid seat (hold.Count claim.era given.number) holds worn refl w
 wears_changed seat change.TakeFd event.Taken holds worn w = wears_slotted seat holds worn w
-wears_changed seat (change.Insert era number form ids mode) (event.Inserted given) holds worn w =
-    wears_laid seat (hold.Count era given) (handed_of (row_fd form) holds) worn refl
-    (wears_handed_of seat (row_fd form) holds worn w)
-wears_changed seat (change.Insert era number form ids mode) (event.Found given) holds worn w =
-    wears_laid seat (hold.Count era given) holds worn refl w
-wears_changed seat (change.InsertRoot era form ids mode agreed) (event.Inserted given) holds worn w =
-    wears_handed_of seat (row_fd form) holds worn w
-wears_changed seat (change.InsertHandle era handle number fd) (event.Inserted given) holds worn w =
-    wears_handed seat fd holds worn w
+wears_changed seat (change.Insert new) (event.Inserted given) holds worn w =
+    wears_laid seat (hold.Count new.era given) (handed_of (row_fd new.form) holds) worn refl
+    (wears_handed_of seat (row_fd new.form) holds worn w)
+wears_changed seat (change.Insert new) (event.Found given) holds worn w =
+    wears_laid seat (hold.Count new.era given.number) holds worn refl w
+wears_changed seat (change.InsertRoot new) (event.Inserted given) holds worn w =
+    wears_handed_of seat (row_fd new.form) holds worn w
+wears_changed seat (change.InsertHandle new) (event.Inserted given) holds worn w =
+    wears_handed seat new.fd holds worn w
 wears_changed seat (change.PinHandle handle number) (event.Pinned row fd) holds worn w =
     wears_laid seat (hold.HandlePin row fd) holds worn refl w
 wears_changed seat asked told holds worn w = w

@@ -99,28 +99,27 @@ held_called Plain told holds = holds
 -- and after an event
 abbrev pub held_changed : Change → EventReply → List Hold → List Hold
 held_changed change.Begin told holds = holds
-held_changed (change.Resolve number) (event.Resolved row form ids mode) holds =
-    laid (hold.Pin row (row_fd form)) holds
+held_changed (change.Resolve number) (event.Resolved resolved) holds =
+    laid (hold.Pin resolved.row (row_fd resolved.form)) holds
 held_changed (change.Resolve number) told holds = holds
 held_changed (change.Unpin row) told holds = holds
-held_changed (change.Claim era handle ids) (event.Claimed given) holds = laid (hold.Count era given) holds
-held_changed (change.Claim era handle ids) told holds = holds
+held_changed (change.Claim claim) (event.Claimed given) holds = laid (hold.Count claim.era given.number) holds
+held_changed (change.Claim claim) told holds = holds
 held_changed change.TakeFd event.Taken holds = slotted holds
 held_changed change.TakeFd told holds = holds
 held_changed change.GiveFd told holds = holds
 held_changed change.DrawNode told holds = holds
-held_changed (change.Insert era number form ids mode) (event.Inserted given) holds =
-    laid (hold.Count era given) (handed_of (row_fd form) holds)
-held_changed (change.Insert era number form ids mode) (event.Found given) holds = laid (hold.Count era given) holds
-held_changed (change.Insert era number form ids mode) told holds = holds
-held_changed (change.InsertRoot era form ids mode agreed) (event.Inserted given) holds =
-    handed_of (row_fd form) holds
-held_changed (change.InsertRoot era form ids mode agreed) told holds = holds
+held_changed (change.Insert new) (event.Inserted given) holds =
+    laid (hold.Count new.era given) (handed_of (row_fd new.form) holds)
+held_changed (change.Insert new) (event.Found given) holds = laid (hold.Count new.era given.number) holds
+held_changed (change.Insert new) told holds = holds
+held_changed (change.InsertRoot new) (event.Inserted given) holds = handed_of (row_fd new.form) holds
+held_changed (change.InsertRoot new) told holds = holds
 held_changed (change.Forget list) told holds = holds
 held_changed (change.GiveBack era number) told holds = holds
 held_changed change.DrawHandle told holds = holds
-held_changed (change.InsertHandle era handle number fd) (event.Inserted given) holds = handed fd holds
-held_changed (change.InsertHandle era handle number fd) told holds = holds
+held_changed (change.InsertHandle new) (event.Inserted given) holds = handed new.fd holds
+held_changed (change.InsertHandle new) told holds = holds
 held_changed (change.PinHandle handle number) (event.Pinned row fd) holds = laid (hold.HandlePin row fd) holds
 held_changed (change.PinHandle handle number) told holds = holds
 held_changed (change.UnpinHandle row) told holds = holds

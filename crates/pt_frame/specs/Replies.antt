@@ -76,14 +76,14 @@ put_by change.Clear (event.Cleared era closings) = closings
 put_by change.Clear told = 0
 put_by change.Begin told = 0
 put_by (change.Resolve number) told = 0
-put_by (change.Claim era handle ids) told = 0
+put_by (change.Claim claim) told = 0
 put_by change.TakeFd told = 0
 put_by change.GiveFd told = 0
 put_by change.DrawNode told = 0
-put_by (change.Insert era number form ids mode) told = 0
-put_by (change.InsertRoot era form ids mode agreed) told = 0
+put_by (change.Insert new) told = 0
+put_by (change.InsertRoot new) told = 0
 put_by change.DrawHandle told = 0
-put_by (change.InsertHandle era handle number fd) told = 0
+put_by (change.InsertHandle new) told = 0
 put_by (change.PinHandle handle number) told = 0
 put_by change.TakeClosing told = 0
 
@@ -96,16 +96,16 @@ closings_in (Changes asked) NoCopy = 0
 
 -- so many rows the event added
 abbrev pub added_by : Change → EventReply → ℕ
-added_by (change.Insert era number form ids mode) (event.Inserted given) = 1
-added_by (change.Insert era number form ids mode) told = 0
-added_by (change.InsertRoot era form ids mode agreed) (event.Inserted given) = 1
-added_by (change.InsertRoot era form ids mode agreed) told = 0
-added_by (change.InsertHandle era handle number fd) (event.Inserted given) = 1
-added_by (change.InsertHandle era handle number fd) told = 0
+added_by (change.Insert new) (event.Inserted given) = 1
+added_by (change.Insert new) told = 0
+added_by (change.InsertRoot new) (event.Inserted given) = 1
+added_by (change.InsertRoot new) told = 0
+added_by (change.InsertHandle new) (event.Inserted given) = 1
+added_by (change.InsertHandle new) told = 0
 added_by change.Begin told = 0
 added_by (change.Resolve number) told = 0
 added_by (change.Unpin row) told = 0
-added_by (change.Claim era handle ids) told = 0
+added_by (change.Claim claim) told = 0
 added_by change.TakeFd told = 0
 added_by change.GiveFd told = 0
 added_by change.DrawNode told = 0
@@ -127,7 +127,7 @@ inserted_by (Changes asked) NoCopy = 0
 
 -- what a closing brings, to be given back at once
 abbrev pub taken_in : ActReply → Taken
-taken_in (Event (event.Closing fd slot)) = taken.Fd fd slot
+taken_in (Event (event.Closing first)) = taken.Fd first.fd first.slot
 taken_in _ = taken.Nothing
 
 -- how many slots are to be given back of it

@@ -123,11 +123,11 @@ fn event_may(event: &Event<'_>) -> Brings
     ensures { result ≡ change_brings (change_of event.now) }
 {
     match event {
-        Event::Resolve { .. } | Event::Claim { .. } | Event::TakeFd | Event::PinHandle { .. } => {
+        Event::Resolve { .. } | Event::Claim(_) | Event::TakeFd | Event::PinHandle { .. } => {
             Brings::Hold
         }
-        Event::Insert { .. } => Brings::RowAndHold,
-        Event::InsertRoot { .. } | Event::InsertHandle { .. } => Brings::Row,
+        Event::Insert(_) => Brings::RowAndHold,
+        Event::InsertRoot(_) | Event::InsertHandle(_) => Brings::Row,
         _ => Brings::Nothing,
     }
 }

@@ -24,9 +24,9 @@ told_put asked told = omega arith
 
 pub same_inserted : (asked : Change) (told : EventReply) →
     inserted_by (deed.Changes asked) (Event told) ≡ added_by asked told
-same_inserted (change.Insert era number form ids mode) (reply.Inserted given) = refl
-same_inserted (change.InsertRoot era form ids mode agreed) (reply.Inserted given) = refl
-same_inserted (change.InsertHandle era handle number fd) (reply.Inserted given) = refl
+same_inserted (change.Insert new) (reply.Inserted given) = refl
+same_inserted (change.InsertRoot new) (reply.Inserted given) = refl
+same_inserted (change.InsertHandle new) (reply.Inserted given) = refl
 same_inserted asked told = refl
 
 -- no event tells more closings than rows go, and only an insertion adds a row

@@ -217,7 +217,7 @@ pub no_places : {turns : List Turn} {job parent : ℕ} {name : List ℕ} {number
 no_places {job = job} {parent = parent} {name = name} u places =
     let p = places.opened in
     let all = subst AreUncalled p.in_turn u in
-    let after = uncalled_at p.before (turn_by job (resolving parent p.row p.form p.ids p.mode))
+    let after = uncalled_at p.before (turn_by job (resolving parent p.resolved))
     (p.between ++ turn_by job (opening p.dir name p.flags p.made_mode p.fd) ∷ p.later) all in
     (uncalled_at p.between (turn_by job (opening p.dir name p.flags p.made_mode p.fd)) p.later after.1).0
 
@@ -238,31 +238,26 @@ none_set key value f is all n = either (eqb n key)
 
 blank_by : (deed : Option Deed) (told : ActReply) (job row : ℕ) (tree : Tree) (past : Past) → IsUncalled deed →
     Blank past → Blank (settled_if past job deed told row tree)
-blank_by (Some (Changes (change.Insert era number form ids mode)))
-    (Event (event.Inserted given)) job row tree past u b =
+blank_by (Some (Changes (change.Insert new))) (Event (event.Inserted given)) job row tree past u b =
     record {
       numbers = none_set given (past.latest job) past.numbers (b.latest job) b.numbers;
       latest = b.latest;
       roots = b.roots;
     }
-blank_by (Some (Changes (change.InsertRoot era form ids mode agreed)))
-    (Event (event.Inserted given)) job row tree past u b =
+blank_by (Some (Changes (change.InsertRoot new))) (Event (event.Inserted given)) job row tree past u b =
     record {
       numbers = none_set given (past.roots job) past.numbers (b.roots job) b.numbers;
       latest = b.latest;
       roots = b.roots;
     }
-blank_by (Some (Changes (change.InsertHandle era handle number fd)))
-    (Event (event.Inserted given)) job row tree past u b =
+blank_by (Some (Changes (change.InsertHandle new))) (Event (event.Inserted given)) job row tree past u b =
     record { numbers = b.numbers; latest = b.latest; roots = b.roots }
-blank_by (Some (Changes (change.Insert era number form ids mode)))
-    (Event (event.Found given)) job row tree past u b =
+blank_by (Some (Changes (change.Insert new))) (Event (event.Found given)) job row tree past u b =
     record { numbers = b.numbers; latest = b.latest; roots = b.roots }
-blank_by (Some (Changes (change.Claim era handle ids)))
-    (Event (event.Claimed given)) job row tree past u b =
+blank_by (Some (Changes (change.Claim claim))) (Event (event.Claimed given)) job row tree past u b =
     record { numbers = b.numbers; latest = b.latest; roots = b.roots }
 blank_by (Some (Changes (change.Resolve number)))
-    (Event (event.Resolved serial form ids mode)) job row tree past u b =
+    (Event (event.Resolved resolved)) job row tree past u b =
     record { numbers = b.numbers; latest = b.latest; roots = b.roots }
 blank_by (Some (Changes asked)) told job row tree past u b = b
 blank_by (Some (Calls asked)) told job row tree past u b = absurd u

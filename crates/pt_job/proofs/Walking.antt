@@ -54,8 +54,8 @@ OfScopes D plan seat asked = Unit {0}
 
 pub of_any_scopes : (plan : Plan) (seat : HostSeat) (asked : Request) →
     OfScopes (λ dropped asked. Unit {0}) plan seat asked
-of_any_scopes plan seat (request.Init capable) = λ era form ids mode. tt
-of_any_scopes plan seat request.Root = λ era form ids mode. tt
+of_any_scopes plan seat (request.Init capable) = λ era form told. tt
+of_any_scopes plan seat request.Root = λ era form told. tt
 of_any_scopes plan seat (request.Open inode kill flags) = λ fd how. tt
 of_any_scopes plan seat (request.OpenDir inode flags) = λ fd how. tt
 of_any_scopes plan seat (request.Create parent name mode kill flags umask ext) = λ fd how. tt

@@ -40,34 +40,34 @@ no_handles = record { changed = λ t handles. refl; ended = λ t handles closing
 -- which steps may change it: clearings, and the insertion of a root
 abbrev Settles : Option Deed → ActReply → Type 0
 Settles (Some (Changes change.Clear)) (Event (event.Cleared era closings)) = Unit {0}
-Settles (Some (Changes (change.InsertRoot era form ids mode said))) (Event (event.Inserted given)) = Unit {0}
+Settles (Some (Changes (change.InsertRoot new))) (Event (event.Inserted given)) = Unit {0}
 Settles deed told = ⊥
 
 kept_by : (t : Tables) (e : Change) (r : EventReply) (after : Tables) → Case t e r after →
     (Settles (Some (Changes e)) (Event r) → ⊥) → after.negotiated ≡ t.negotiated
 kept_by t change.Begin (event.Began era negotiated) after h n = ap options_of h.2
-kept_by t (change.Resolve number) (event.Resolved serial form ids mode) after h n = ap options_of h.7.2
+kept_by t (change.Resolve number) (event.Resolved resolved) after h n = ap options_of h.7.2
 kept_by t (change.Unpin serial) (event.Done closings) after h n = unpins options_of no_rows t serial closings after h
-kept_by t (change.Claim era handle ids) (event.Claimed number) after h n = ap options_of h.1.4.2
-kept_by t (change.Claim era handle ids) event.Absent after h n = ap options_of h.2
+kept_by t (change.Claim claim) (event.Claimed given) after h n = ap options_of h.1.4.2
+kept_by t (change.Claim claim) event.Absent after h n = ap options_of h.2
 kept_by t change.TakeFd event.Taken after h n = ap options_of h.2
 kept_by t change.GiveFd event.Given after h n = ap options_of h.1
 kept_by t change.DrawNode (event.Drawn number) after h n = ap options_of h.2
-kept_by t (change.Insert era number form ids mode) (event.Inserted given) after h n = ap options_of h.4
-kept_by t (change.Insert era number form ids mode) (event.Found given) after h n = ap options_of h.1.4.2
-kept_by t (change.InsertRoot era form ids mode said) (event.Inserted given) after h n = absurd (n tt)
+kept_by t (change.Insert new) (event.Inserted given) after h n = ap options_of h.4
+kept_by t (change.Insert new) (event.Found given) after h n = ap options_of h.1.4.2
+kept_by t (change.InsertRoot new) (event.Inserted given) after h n = absurd (n tt)
 kept_by t (change.Forget list) (event.Done closings) after h n = forgets_all options_of no_rows t list closings after h
 kept_by t (change.GiveBack era number) (event.Done closings) after h n =
     forgets_one options_of no_rows t number 1 closings after h.2
 kept_by t change.DrawHandle (event.Drawn handle) after h n = ap options_of h.2
-kept_by t (change.InsertHandle era handle number fd) (event.Inserted given) after h n = ap options_of h.4
+kept_by t (change.InsertHandle new) (event.Inserted given) after h n = ap options_of h.4
 kept_by t (change.PinHandle handle number) (event.Pinned serial fd) after h n = ap options_of h.5.2
 kept_by t (change.UnpinHandle serial) (event.Done closings) after h n =
     unpins_handle options_of no_handles t serial closings after h
 kept_by t (change.Release handle number) (event.Done closings) after h n =
     handle_dies options_of no_handles t h.0 closings after h.2
 kept_by t change.Clear (event.Cleared era closings) after h n = absurd (n tt)
-kept_by t change.TakeClosing (event.Closing fd slot) after h n = ap options_of h.2
+kept_by t change.TakeClosing (event.Closing first) after h n = ap options_of h.2
 kept_by t e (event.Refused why) after h n = ap options_of h.1
 kept_by t _ _ after h n = absurd h
 
@@ -86,10 +86,10 @@ starter_step decided job session t mid now (Some (Changes change.Clear)) (Event 
     let h = cases t mid change.Clear (event.Cleared era closings) g in
     let up : mid.era ≡ t.era + 1 = ap (λ (z : Tables). z.era) h.1.7 in
     absurd (omega (arith, up, l, e))
-starter_step decided job session t mid now (Some (Changes (change.InsertRoot era form ids mode said)))
+starter_step decided job session t mid now (Some (Changes (change.InsertRoot new)))
     (Event (event.Inserted given)) g l e = (
       refl,
-      era_step t (Some (Changes (change.InsertRoot era form ids mode said))) (Event (event.Inserted given)) mid g
+      era_step t (Some (Changes (change.InsertRoot new))) (Event (event.Inserted given)) mid g
           (λ c. c) ∙ e,
     )
 starter_step decided job session t mid now deed told g l e = (refl, era_step t deed told mid g (λ c. c) ∙ e)
@@ -218,10 +218,10 @@ agrees : (decided : Option Negotiated) (job : ℕ) (session : Session) (t after 
     t.negotiated ≡ session.agreed → after.negotiated ≡ (session_by decided job deed told session).agreed
 agrees decided job session t after (Some (Changes change.Clear)) (Event (event.Cleared era closings)) g says k e =
     ap options_of (cases t after change.Clear (event.Cleared era closings) g).1.7
-agrees decided job session t after (Some (Changes (change.InsertRoot era form ids mode said)))
-    (Event (event.Inserted given)) g says k e =
-    ap options_of (cases t after (change.InsertRoot era form ids mode said) (event.Inserted given) g).4
-    ∙ root_agrees said decided job session (with_row t (new_row t 1 form ids mode 2)) e says (k tt)
+agrees decided job session t after (Some (Changes (change.InsertRoot new))) (Event (event.Inserted given)) g says k e =
+    ap options_of (cases t after (change.InsertRoot new) (event.Inserted given) g).4
+    ∙ root_agrees new.negotiated decided job session (with_row t (new_row t 1 new.form new.ids new.mode 2)) e says
+    (k tt)
 agrees decided job session t after deed told g says k e = kept_step t deed told after g (λ c. c) ∙ e
 
 module _

@@ -351,23 +351,23 @@ moved_by_case : (t : Tables) (e : Change) (r : EventReply) (after : Tables) → 
     IsHonest (Asks e) (Event r) → Moved t after (Asks e) (Event r)
 moved_by_case t change.Begin (reply.Began era negotiated) after h a =
     same t after _ _ h.2 refl refl (λ _. refl) refl (λ _. refl) (λ _. refl)
-moved_by_case t (change.Resolve number) (reply.Resolved serial form ids mode) after h a =
+moved_by_case t (change.Resolve number) (reply.Resolved resolved) after h a =
     let c = h.7 in
     rw c.2 (record {
       fds = λ fd. let x = total_replaces (row_has fd) c.1 in omega (arith, x);
       slots = let x = total_replaces row_slot c.1 in omega (arith, x);
       pins = λ k.
           let x = total_replaces (row_pins k) c.1 in
-          let y : is h.0.serial k ≡ is serial k = ap (λ i. is i k) h.2 in
+          let y : is h.0.serial k ≡ is resolved.row k = ap (λ i. is i k) h.2 in
           omega (arith, x, y);
       handle_pins = λ k. omega arith;
       closings = omega arith;
     })
 moved_by_case t (change.Unpin serial) (reply.Done closings) after h a = unpinned t serial closings after h
 moved_by_case t (change.Unpin serial) (reply.Refused why) after h a = absurd a
-moved_by_case t (change.Claim era handle ids) (reply.Claimed number) after h a =
+moved_by_case t (change.Claim claim) (reply.Claimed given) after h a =
     again t h.1.0 after _ _ h.1.4 refl refl (λ _. refl) refl (λ _. refl) (λ _. refl)
-moved_by_case t (change.Claim era handle ids) reply.Absent after h a =
+moved_by_case t (change.Claim claim) reply.Absent after h a =
     same t after _ _ h.2 refl refl (λ _. refl) refl (λ _. refl) (λ _. refl)
 moved_by_case t change.TakeFd reply.Taken after h a =
     rw h.2 (record {
@@ -394,16 +394,16 @@ moved_by_case t change.DrawNode (reply.Drawn number) after h a =
       handle_pins = λ _. omega arith;
       closings = omega arith;
     })
-moved_by_case t (change.Insert era number form ids mode) (reply.Inserted given) after h a =
-    rw h.4 (inserts t number form (new_row t number form ids mode 1) (Asks (change.Insert era number form ids mode))
+moved_by_case t (change.Insert new) (reply.Inserted given) after h a =
+    rw h.4 (inserts t new.number new.form (new_row t new.number new.form new.ids new.mode 1) (Asks (change.Insert new))
     (Event (reply.Inserted given)) refl refl (λ _. omega arith) (omega arith) (λ _. refl) (λ _.
     refl) refl refl None)
-moved_by_case t (change.Insert era number form ids mode) (reply.Found given) after h a =
+moved_by_case t (change.Insert new) (reply.Found given) after h a =
     again t h.1.0 after _ _ h.1.4 refl refl (λ _. refl) refl (λ _. refl) (λ _. refl)
-moved_by_case t (change.InsertRoot era form ids mode negotiated) (reply.Inserted given) after h a =
-    rw h.4 (inserts t 1 form (new_row t 1 form ids mode 2) (Asks (change.InsertRoot era form ids mode negotiated))
+moved_by_case t (change.InsertRoot new) (reply.Inserted given) after h a =
+    rw h.4 (inserts t 1 new.form (new_row t 1 new.form new.ids new.mode 2) (Asks (change.InsertRoot new))
     (Event (reply.Inserted given)) refl refl (λ _. omega arith) (omega arith) (λ _. refl) (λ _.
-    refl) refl refl negotiated)
+    refl) refl refl new.negotiated)
 moved_by_case t (change.Forget list) (reply.Done closings) after h a =
     moved_by t after closings (Asks (change.Forget list)) (Event (reply.Done closings))
     (sheds_all t list closings after h) refl refl (λ _. refl) refl (λ _. refl) (λ _. refl)
@@ -418,7 +418,7 @@ moved_by_case t change.DrawHandle (reply.Drawn handle) after h a =
       handle_pins = λ _. omega arith;
       closings = omega arith;
     })
-moved_by_case t (change.InsertHandle era handle number fd) (reply.Inserted given) after h a =
+moved_by_case t (change.InsertHandle new) (reply.Inserted given) after h a =
     rw h.4 (record {
       fds = λ k. omega arith;
       slots = omega arith;
@@ -447,7 +447,7 @@ moved_by_case t (change.Release handle number) (reply.Done closings) after h a =
 moved_by_case t change.Clear (reply.Cleared era closings) after h a =
     moved_by t after closings (Asks change.Clear) (Event (reply.Cleared era closings))
     (sheds_clears t closings after h.1) refl refl (λ _. refl) refl (λ _. refl) (λ _. refl)
-moved_by_case t change.TakeClosing (reply.Closing fd slot) after h a =
+moved_by_case t change.TakeClosing (reply.Closing first) after h a =
     rw h.2 (record {
       fds = λ k. let x = ap (total (closing_has k)) h.1 in omega (arith, x);
       slots = let x = ap (total closing_slot) h.1 in omega (arith, x);

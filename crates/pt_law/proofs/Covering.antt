@@ -131,20 +131,20 @@ covers_called Plain told scopes holds c = c
 
 covers_changed : (asked : Change) (told : EventReply) (scopes holds : List Hold) → Covers scopes holds →
     Covers scopes (held_changed asked told holds)
-covers_changed (change.Resolve number) (event.Resolved row form ids mode) scopes holds c =
-    covers_laid (hold.Pin row (row_fd form)) scopes holds refl c
-covers_changed (change.Claim era handle ids) (event.Claimed given) scopes holds c =
-    covers_laid (hold.Count era given) scopes holds refl c
+covers_changed (change.Resolve number) (event.Resolved resolved) scopes holds c =
+    covers_laid (hold.Pin resolved.row (row_fd resolved.form)) scopes holds refl c
+covers_changed (change.Claim claim) (event.Claimed given) scopes holds c =
+    covers_laid (hold.Count claim.era given.number) scopes holds refl c
 covers_changed change.TakeFd event.Taken scopes holds c = covers_slotted scopes holds c
-covers_changed (change.Insert era number form ids mode) (event.Inserted given) scopes holds c =
-    covers_laid (hold.Count era given) scopes (handed_of (row_fd form) holds) refl
-    (covers_handed_of (row_fd form) scopes holds c)
-covers_changed (change.Insert era number form ids mode) (event.Found given) scopes holds c =
-    covers_laid (hold.Count era given) scopes holds refl c
-covers_changed (change.InsertRoot era form ids mode agreed) (event.Inserted given) scopes holds c =
-    covers_handed_of (row_fd form) scopes holds c
-covers_changed (change.InsertHandle era handle number fd) (event.Inserted given) scopes holds c =
-    covers_handed fd scopes holds c
+covers_changed (change.Insert new) (event.Inserted given) scopes holds c =
+    covers_laid (hold.Count new.era given) scopes (handed_of (row_fd new.form) holds) refl
+    (covers_handed_of (row_fd new.form) scopes holds c)
+covers_changed (change.Insert new) (event.Found given) scopes holds c =
+    covers_laid (hold.Count new.era given.number) scopes holds refl c
+covers_changed (change.InsertRoot new) (event.Inserted given) scopes holds c =
+    covers_handed_of (row_fd new.form) scopes holds c
+covers_changed (change.InsertHandle new) (event.Inserted given) scopes holds c =
+    covers_handed new.fd scopes holds c
 covers_changed (change.PinHandle handle number) (event.Pinned row fd) scopes holds c =
     covers_laid (hold.HandlePin row fd) scopes holds refl c
 covers_changed asked told scopes holds c = c

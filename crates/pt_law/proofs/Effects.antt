@@ -135,35 +135,35 @@ clears t n after h =
 
 -- the event inserts no row
 abbrev pub KeepsRows : Change → EventReply → Type 0
-KeepsRows (change.Insert era number form ids mode) (reply.Inserted given) = ⊥
-KeepsRows (change.InsertRoot era form ids mode negotiated) (reply.Inserted given) = ⊥
-KeepsRows (change.InsertHandle era handle number fd) (reply.Inserted given) = ⊥
+KeepsRows (change.Insert new) (reply.Inserted given) = ⊥
+KeepsRows (change.InsertRoot new) (reply.Inserted given) = ⊥
+KeepsRows (change.InsertHandle new) (reply.Inserted given) = ⊥
 KeepsRows asked told = Unit {0}
 
 pub kept_by : (t : Tables) (e : Change) (r : EventReply) (after : Tables) → KeepsRows e r → Case t e r after →
     Kept t after
 kept_by t change.Begin (reply.Began era negotiated) after k h = nothing h.2
-kept_by t (change.Resolve number) (reply.Resolved serial form ids mode) after k h =
+kept_by t (change.Resolve number) (reply.Resolved resolved) after k h =
     repinned t h.0 (h.0.pins + 1) after h.7
 kept_by t (change.Unpin serial) (reply.Done closings) after k h = unpins t serial closings after h
-kept_by t (change.Claim era handle ids) (reply.Claimed number) after k h = given_again t ids number after h.1
-kept_by t (change.Claim era handle ids) reply.Absent after k h = nothing h.2
+kept_by t (change.Claim claim) (reply.Claimed given) after k h = given_again t claim.ids given.number after h.1
+kept_by t (change.Claim claim) reply.Absent after k h = nothing h.2
 kept_by t change.TakeFd reply.Taken after k h =
     other (ap (λ (z : Tables). z.rows) h.2) (ap (λ (z : Tables). z.handles) h.2)
 kept_by t change.GiveFd reply.Given after k h =
     other (ap (λ (z : Tables). z.rows) h.1) (ap (λ (z : Tables). z.handles) h.1)
 kept_by t change.DrawNode (reply.Drawn number) after k h =
     other (ap (λ (z : Tables). z.rows) h.2) (ap (λ (z : Tables). z.handles) h.2)
-kept_by t (change.Insert era number form ids mode) (reply.Inserted given) after k h = absurd k
-kept_by t (change.Insert era number form ids mode) (reply.Found given) after k h = given_again t ids given after h.1
-kept_by t (change.InsertRoot era form ids mode negotiated) (reply.Inserted given) after k h = absurd k
+kept_by t (change.Insert new) (reply.Inserted given) after k h = absurd k
+kept_by t (change.Insert new) (reply.Found given) after k h = given_again t new.ids given.number after h.1
+kept_by t (change.InsertRoot new) (reply.Inserted given) after k h = absurd k
 kept_by t (change.Forget list) (reply.Done closings) after k h = forgets_all t list closings after h
 kept_by t (change.GiveBack era number) (reply.Done closings) after k h = forgets_one t number 1 closings after h.2
-kept_by t change.TakeClosing (reply.Closing fd slot) after k h =
+kept_by t change.TakeClosing (reply.Closing first) after k h =
     other (ap (λ (z : Tables). z.rows) h.2) (ap (λ (z : Tables). z.handles) h.2)
 kept_by t change.DrawHandle (reply.Drawn handle) after k h =
     other (ap (λ (z : Tables). z.rows) h.2) (ap (λ (z : Tables). z.handles) h.2)
-kept_by t (change.InsertHandle era handle number fd) (reply.Inserted given) after k h = absurd k
+kept_by t (change.InsertHandle new) (reply.Inserted given) after k h = absurd k
 kept_by t (change.PinHandle handle number) (reply.Pinned serial fd) after k h =
     handle_repinned t h.0 (h.0.pins + 1) after h.5
 kept_by t (change.UnpinHandle serial) (reply.Done closings) after k h = unpins_handle t serial closings after h

@@ -16,6 +16,7 @@ use Rattle.pt_session.specs.declared.form.RowForm.TheVariants.{File}
 use Rattle.pt_frame.specs.Held.{row_fd}
 use Rattle.pt_session.specs.declared.form.Negotiated.{Negotiated}
 use Rattle.pt_session.specs.declared.event.KeptEvent.TheVariants as change
+use Rattle.pt_session.specs.declared.reply.Resolved.{Resolved}
 use Rattle.pt_session.specs.declared.reply.EventReply.{EventReply}
 use Rattle.pt_session.specs.declared.reply.EventReply.TheVariants as event
 use Rattle.pt_frame.specs.Deed.{Changes}
@@ -49,34 +50,34 @@ each_brought P (taken.Fd fd false) holds s f h = (f fd refl, h)
 
 -- the event gives a number of this era
 abbrev pub IsOfEra : Change → ℕ → Type 0
-IsOfEra (change.Claim era handle ids) own = own ≡ era
-IsOfEra (change.Insert era number form ids mode) own = own ≡ era
+IsOfEra (change.Claim claim) own = own ≡ claim.era
+IsOfEra (change.Insert new) own = own ≡ new.era
 IsOfEra e own = ⊥
 
 pub holds_event : (P : Hold → Type 0) (holds : List Hold) (e : Change) (r : EventReply) (after : List Hold) →
     Shifts holds (Changes e) (Event r) after → P hold.Slot → ((era n : ℕ) → IsOfEra e era → P (hold.Count era n)) →
     ((fd : Fd) → e ≡ change.TakeClosing → taken_fd (taken_in (Event r)) ≡ Some fd → P (hold.Fd fd)) →
-    ((number row mode : ℕ) (form : RowForm) (ids : ObjIds) → e ≡ change.Resolve number →
-    r ≡ event.Resolved row form ids mode → P (hold.Pin row (row_fd form))) →
+    ((number : ℕ) (resolved : Resolved) → e ≡ change.Resolve number → r ≡ event.Resolved resolved →
+    P (hold.Pin resolved.row (row_fd resolved.form))) →
     ((handle number row : ℕ) (fd : Fd) → e ≡ change.PinHandle handle number → r ≡ event.Pinned row fd →
     P (hold.HandlePin row fd)) → Each P holds → Each P after
-holds_event P holds (change.Resolve number) (event.Resolved row form ids mode) after m s c f p q h =
-    each_put P m (p number row mode form ids refl refl) h
+holds_event P holds (change.Resolve number) (event.Resolved resolved) after m s c f p q h =
+    each_put P m (p number resolved refl refl) h
 holds_event P holds (change.Unpin row) r after m s c f p q h = each_takes P m.1 h
-holds_event P holds (change.Claim era handle ids) (event.Claimed number) after m s c f p q h =
-    each_put P m (c era number refl) h
+holds_event P holds (change.Claim claim) (event.Claimed given) after m s c f p q h =
+    each_put P m (c claim.era given.number refl) h
 holds_event P holds change.TakeFd event.Taken after m s c f p q h = each_put P m s h
 holds_event P holds change.GiveFd r after m s c f p q h = each_takes P m h
-holds_event P holds (change.Insert era number form ids mode) (event.Inserted given) after m s c f p q h =
-    each_put P m.4 (c era given refl) (each_takes P m.3 (each_takes P m.2 h))
-holds_event P holds (change.Insert era number form ids mode) (event.Found given) after m s c f p q h =
-    each_put P m (c era given refl) h
-holds_event P holds (change.InsertRoot era form ids mode negotiated) (event.Inserted given) after m s c f p q h =
+holds_event P holds (change.Insert new) (event.Inserted given) after m s c f p q h =
+    each_put P m.4 (c new.era given refl) (each_takes P m.3 (each_takes P m.2 h))
+holds_event P holds (change.Insert new) (event.Found given) after m s c f p q h =
+    each_put P m (c new.era given.number refl) h
+holds_event P holds (change.InsertRoot new) (event.Inserted given) after m s c f p q h =
     each_takes P m.2 (each_takes P m.1 h)
 holds_event P holds (change.PinHandle handle number) (event.Pinned row fd) after m s c f p q h =
     each_put P m (q handle number row fd refl refl) h
 holds_event P holds (change.UnpinHandle row) r after m s c f p q h = each_takes P m.1 h
-holds_event P holds (change.InsertHandle era handle number fd) (event.Inserted given) after m s c f p q h =
+holds_event P holds (change.InsertHandle new) (event.Inserted given) after m s c f p q h =
     each_takes P m.2 (each_takes P m.1 h)
 holds_event P holds (change.GiveBack era number) r after m s c f p q h = each_takes P m h
 holds_event P holds change.TakeClosing r after m s c f p q h =
@@ -113,29 +114,29 @@ next_agreed (Some n) t row = omega arith
 
 pub grows : (tree : Tree) (past : Past) (t : Tables) (j : ℕ) (e : Change) (r : EventReply) (t' : Tables) → Agree t →
     Case t e r t' → Grows past (settled_by past j (Changes e) (Event r) t.next_row tree) t.next_row t'.next_row
-grows tree past t j (change.Insert era number form ids mode) (event.Inserted given) t' a h =
-    grows_come past (settled past given t.next_row (fd_of form) (past.latest j)) j given t.next_row t'.next_row
+grows tree past t j (change.Insert new) (event.Inserted given) t' a h =
+    grows_come past (settled past given t.next_row (fd_of new.form) (past.latest j)) j given t.next_row t'.next_row
     (past.latest j)
-    (grows_settled past given t.next_row t'.next_row (fd_of form) (past.latest j) (rw h.4 (omega arith)))
-grows tree past t j (change.Insert era number form ids mode) (event.Found given) t' a h =
-    let l = (stays_by t (change.Insert era number form ids mode) (event.Found given) t' h).rows in
+    (grows_settled past given t.next_row t'.next_row (fd_of new.form) (past.latest j) (rw h.4 (omega arith)))
+grows tree past t j (change.Insert new) (event.Found given) t' a h =
+    let l = (stays_by t (change.Insert new) (event.Found given) t' h).rows in
     record { latest = refl; roots = refl; fds = λ row k. refl; objects = λ row k. refl; rows = l }
-grows tree past t j (change.Claim era handle ids) (event.Claimed given) t' a h =
-    let l = (stays_by t (change.Claim era handle ids) (event.Claimed given) t' h).rows in
+grows tree past t j (change.Claim claim) (event.Claimed given) t' a h =
+    let l = (stays_by t (change.Claim claim) (event.Claimed given) t' h).rows in
     record { latest = refl; roots = refl; fds = λ row k. refl; objects = λ row k. refl; rows = l }
-grows tree past t j (change.InsertRoot era form ids mode negotiated) (event.Inserted given) t' a h =
-    grows_settled past given t.next_row t'.next_row (fd_of form) (past.roots j)
-    (rw h.4 (next_agreed negotiated t (new_row t 1 form ids mode 2)))
-grows tree past t j (change.InsertHandle era handle number fd) (event.Inserted given) t' a h = record {
+grows tree past t j (change.InsertRoot new) (event.Inserted given) t' a h =
+    grows_settled past given t.next_row t'.next_row (fd_of new.form) (past.roots j)
+    (rw h.4 (next_agreed new.negotiated t (new_row t 1 new.form new.ids new.mode 2)))
+grows tree past t j (change.InsertHandle new) (event.Inserted given) t' a h = record {
   latest = refl;
   roots = refl;
-  fds = λ row k. set_at_other past.fds t.next_row (Some fd) row (λ e. absurd (omega (arith, e, k)));
-  objects = λ row k. set_at_other past.objects t.next_row (past.resolved j number) row (λ e.
+  fds = λ row k. set_at_other past.fds t.next_row (Some new.fd) row (λ e. absurd (omega (arith, e, k)));
+  objects = λ row k. set_at_other past.objects t.next_row (past.resolved j new.number) row (λ e.
       absurd (omega (arith, e, k)));
   rows = rw h.4 (omega arith);
 }
-grows tree past t j (change.Resolve number) (event.Resolved serial form ids mode) t' a h =
-    let l = (stays_by t (change.Resolve number) (event.Resolved serial form ids mode) t' h).rows in
+grows tree past t j (change.Resolve number) (event.Resolved resolved) t' a h =
+    let l = (stays_by t (change.Resolve number) (event.Resolved resolved) t' h).rows in
     record { latest = refl; roots = refl; fds = λ row k. refl; objects = λ row k. refl; rows = l }
 grows tree past t j e r t' a h = let l = (stays_by t e r t' h).rows in
     record { latest = refl; roots = refl; fds = λ row k. refl; objects = λ row k. refl; rows = l }
@@ -157,51 +158,51 @@ pins_grow past later next next' holds g =
 event_latest : (notes : Notes) (e : Change) (r : EventReply) (fd : Fd) →
     (notes_after notes (Changes e) (Event r)).latest ≡ Some fd →
     (notes.latest ≡ Some fd) × (fd_handed fd.0 (Changes e) (Event r) ≡ 0)
-event_latest notes (change.Insert era number form ids mode) (event.Inserted given) fd e =
-    let a = unless_apart (fd_of form) notes.latest fd e in (a.0, is_apart (fd_of form).0 fd.0 a.1)
-event_latest notes (change.InsertRoot era form ids mode negotiated) (event.Inserted given) fd e =
-    let a = unless_apart (fd_of form) notes.latest fd e in (a.0, is_apart (fd_of form).0 fd.0 a.1)
-event_latest notes (change.InsertHandle era handle number same) (event.Inserted given) fd e =
-    let a = unless_apart same notes.latest fd e in (a.0, is_apart same.0 fd.0 a.1)
-event_latest notes (change.Resolve number) (event.Resolved row form ids mode) fd e = (e, refl)
+event_latest notes (change.Insert new) (event.Inserted given) fd e =
+    let a = unless_apart (fd_of new.form) notes.latest fd e in (a.0, is_apart (fd_of new.form).0 fd.0 a.1)
+event_latest notes (change.InsertRoot new) (event.Inserted given) fd e =
+    let a = unless_apart (fd_of new.form) notes.latest fd e in (a.0, is_apart (fd_of new.form).0 fd.0 a.1)
+event_latest notes (change.InsertHandle new) (event.Inserted given) fd e =
+    let a = unless_apart new.fd notes.latest fd e in (a.0, is_apart new.fd.0 fd.0 a.1)
+event_latest notes (change.Resolve number) (event.Resolved resolved) fd e = (e, refl)
 event_latest notes change.DrawHandle (event.Drawn handle) fd e = (e, refl)
 event_latest notes change.Clear (event.Cleared era closings) fd e = (e, refl)
 event_latest notes change.Begin (event.Began era negotiated) fd e = (e, refl)
 event_latest notes change.DrawNode (event.Drawn number) fd e = (e, refl)
-event_latest notes (change.Insert era number form ids mode) (event.Found given) fd e = (e, refl)
-event_latest notes (change.Claim era handle ids) (event.Claimed given) fd e = (e, refl)
+event_latest notes (change.Insert new) (event.Found given) fd e = (e, refl)
+event_latest notes (change.Claim claim) (event.Claimed given) fd e = (e, refl)
 event_latest notes _ _ fd e = (e, refl)
 
 event_root : (notes : Notes) (e : Change) (r : EventReply) (fd : Fd) →
     (notes_after notes (Changes e) (Event r)).root ≡ Some fd →
     (notes.root ≡ Some fd) × (fd_handed fd.0 (Changes e) (Event r) ≡ 0)
-event_root notes (change.Insert era number form ids mode) (event.Inserted given) fd e =
-    let a = unless_apart (fd_of form) notes.root fd e in (a.0, is_apart (fd_of form).0 fd.0 a.1)
-event_root notes (change.InsertRoot era form ids mode negotiated) (event.Inserted given) fd e =
-    let a = unless_apart (fd_of form) notes.root fd e in (a.0, is_apart (fd_of form).0 fd.0 a.1)
-event_root notes (change.InsertHandle era handle number same) (event.Inserted given) fd e =
-    let a = unless_apart same notes.root fd e in (a.0, is_apart same.0 fd.0 a.1)
-event_root notes (change.Resolve number) (event.Resolved row form ids mode) fd e = (e, refl)
+event_root notes (change.Insert new) (event.Inserted given) fd e =
+    let a = unless_apart (fd_of new.form) notes.root fd e in (a.0, is_apart (fd_of new.form).0 fd.0 a.1)
+event_root notes (change.InsertRoot new) (event.Inserted given) fd e =
+    let a = unless_apart (fd_of new.form) notes.root fd e in (a.0, is_apart (fd_of new.form).0 fd.0 a.1)
+event_root notes (change.InsertHandle new) (event.Inserted given) fd e =
+    let a = unless_apart new.fd notes.root fd e in (a.0, is_apart new.fd.0 fd.0 a.1)
+event_root notes (change.Resolve number) (event.Resolved resolved) fd e = (e, refl)
 event_root notes change.DrawHandle (event.Drawn handle) fd e = (e, refl)
 event_root notes change.Clear (event.Cleared era closings) fd e = (e, refl)
 event_root notes change.Begin (event.Began era negotiated) fd e = (e, refl)
 event_root notes change.DrawNode (event.Drawn number) fd e = (e, refl)
-event_root notes (change.Insert era number form ids mode) (event.Found given) fd e = (e, refl)
-event_root notes (change.Claim era handle ids) (event.Claimed given) fd e = (e, refl)
+event_root notes (change.Insert new) (event.Found given) fd e = (e, refl)
+event_root notes (change.Claim claim) (event.Claimed given) fd e = (e, refl)
 event_root notes _ _ fd e = (e, refl)
 
 event_rooted : (notes : Notes) (e : Change) (r : EventReply) →
     (notes_after notes (Changes e) (Event r)).rooted ≡ notes.rooted
-event_rooted notes (change.Insert era number form ids mode) (event.Inserted given) = refl
-event_rooted notes (change.InsertRoot era form ids mode negotiated) (event.Inserted given) = refl
-event_rooted notes (change.InsertHandle era handle number fd) (event.Inserted given) = refl
-event_rooted notes (change.Resolve number) (event.Resolved row form ids mode) = refl
+event_rooted notes (change.Insert new) (event.Inserted given) = refl
+event_rooted notes (change.InsertRoot new) (event.Inserted given) = refl
+event_rooted notes (change.InsertHandle new) (event.Inserted given) = refl
+event_rooted notes (change.Resolve number) (event.Resolved resolved) = refl
 event_rooted notes change.DrawHandle (event.Drawn handle) = refl
 event_rooted notes change.Clear (event.Cleared era closings) = refl
 event_rooted notes change.Begin (event.Began era negotiated) = refl
 event_rooted notes change.DrawNode (event.Drawn number) = refl
-event_rooted notes (change.Insert era number form ids mode) (event.Found given) = refl
-event_rooted notes (change.Claim era handle ids) (event.Claimed given) = refl
+event_rooted notes (change.Insert new) (event.Found given) = refl
+event_rooted notes (change.Claim claim) (event.Claimed given) = refl
 event_rooted notes _ _ = refl
 
 noted_event : (tree : Tree) (job after : Job) (e : Change) (r : EventReply) (noted noted' : Option Fd)
@@ -222,15 +223,15 @@ noted_event tree job after e r noted noted' was was' m w f h fd q =
 kept_fd : (form : RowForm) → Some (fd_of form) ≡ row_fd form
 kept_fd (File fd) = refl
 
-resolved_pin : (tree : Tree) (past : Past) (t : Tables) (number row mode : ℕ) (form : RowForm) (ids : ObjIds)
-    (t' : Tables) → Agree t → Case t (change.Resolve number) (event.Resolved row form ids mode) t' →
-    Each (RowOpen tree past) t.rows → PinRight t.next_row past.fds (hold.Pin row (row_fd form))
-resolved_pin tree past t number row mode form ids t' a h rows =
+resolved_pin : (tree : Tree) (past : Past) (t : Tables) (number : ℕ) (resolved : Resolved) (t' : Tables) → Agree t →
+    Case t (change.Resolve number) (event.Resolved resolved) t' → Each (RowOpen tree past) t.rows →
+    PinRight t.next_row past.fds (hold.Pin resolved.row (row_fd resolved.form))
+resolved_pin tree past t number resolved t' a h rows =
     let o = each_replaced (RowOpen tree past) h.7.1 rows in
     let s = each_replaced (IsSoundRow t.next_row) h.7.1 a.sound in (
       let d = s.drawn in let e = h.2 in
           omega (arith, d, e),
-      ap past.fds (sym h.2) ∙ o.kept_by ∙ ap (λ f. Some (fd_of f)) h.3 ∙ kept_fd form,
+      ap past.fds (sym h.2) ∙ o.kept_by ∙ ap (λ f. Some (fd_of f)) h.3 ∙ kept_fd resolved.form,
     )
 
 -- what is noted of the latest resolution stays right
@@ -246,10 +247,10 @@ resolved_stays past later next next' j noted g q k was e =
     )
 
 -- a number that is resolved has the object of the row that is pinned
-resolved_now : (tree : Tree) (past : Past) (t : Tables) (number row mode : ℕ) (form : RowForm) (ids : ObjIds)
-    (t' : Tables) → Agree t → Case t (change.Resolve number) (event.Resolved row form ids mode) t' →
-    Each (RowOpen tree past) t.rows → (row < t.next_row) × (past.objects row ≡ past.numbers number)
-resolved_now tree past t number row mode form ids t' a h rows =
+resolved_now : (tree : Tree) (past : Past) (t : Tables) (number : ℕ) (resolved : Resolved) (t' : Tables) → Agree t →
+    Case t (change.Resolve number) (event.Resolved resolved) t' → Each (RowOpen tree past) t.rows →
+    (resolved.row < t.next_row) × (past.objects resolved.row ≡ past.numbers number)
+resolved_now tree past t number resolved t' a h rows =
     let o = each_replaced (RowOpen tree past) h.7.1 rows in
     let s = each_replaced (IsSoundRow t.next_row) h.7.1 a.sound in (
       let d = s.drawn in let e = h.2 in omega (arith, d, e),
@@ -269,9 +270,9 @@ resolved_event : (tree : Tree) (past : Past) (t : Tables) (j : ℕ) (notes : Not
     (was.row < t'.next_row)
     × ((settled_by past j (Changes e) (Event r) t.next_row tree).objects was.row
     ≡ (settled_by past j (Changes e) (Event r) t.next_row tree).resolved j was.number)
-resolved_event tree past t j notes (change.Resolve number) (event.Resolved row form ids mode) t' a h rows g k was e =
-    let n = resolved_now tree past t number row mode form ids t' a h rows in
-    let same : row ≡ was.row = ap (row_of row) e in
+resolved_event tree past t j notes (change.Resolve number) (event.Resolved resolved) t' a h rows g k was e =
+    let n = resolved_now tree past t number resolved t' a h rows in
+    let same : resolved.row ≡ was.row = ap (row_of resolved.row) e in
     let same_number : number ≡ was.number = ap (number_of number) e in
     let own = set_at number (past.numbers number) (past.resolved j) in (
       let x = n.0 in let y = g.rows in omega (arith, x, y, same),
@@ -283,17 +284,16 @@ resolved_event tree past t j notes (change.Resolve number) (event.Resolved row f
     row_of : ℕ → Option Resolution → ℕ
     row_of other None = other
     row_of other (Some was) = was.row
-resolved_event tree past t j notes (change.Insert era number form ids mode)
+resolved_event tree past t j notes (change.Insert new)
     (event.Inserted given) t' a h rows g k was e = absurd (cc)
-resolved_event tree past t j notes (change.Insert era number form ids mode)
+resolved_event tree past t j notes (change.Insert new)
     (event.Found given) t' a h rows g k was e =
     absurd (cc)
-resolved_event tree past t j notes (change.Claim era handle ids) (event.Claimed given) t' a h rows g k was e =
-    absurd (cc)
-resolved_event tree past t j notes (change.InsertRoot era form ids mode negotiated)
+resolved_event tree past t j notes (change.Claim claim) (event.Claimed given) t' a h rows g k was e = absurd (cc)
+resolved_event tree past t j notes (change.InsertRoot new)
     (event.Inserted given) t' a h rows g k was e =
     resolved_stays past _ t.next_row t'.next_row j notes.resolved g refl k was e
-resolved_event tree past t j notes (change.InsertHandle era handle number fd)
+resolved_event tree past t j notes (change.InsertHandle new)
     (event.Inserted given) t' a h rows g k was e =
     resolved_stays past _ t.next_row t'.next_row j notes.resolved g refl k was e
 resolved_event tree past t j notes change.Begin (event.Began era negotiated) t' a h rows g k was e =
@@ -310,14 +310,14 @@ resolved_event tree past t j notes _ _ t' a h rows g k was e =
 event_reopened : (notes : Notes) (e : Change) (r : EventReply) (fd : Fd) →
     (notes_after notes (Changes e) (Event r)).reopened ≡ Some fd →
     (notes.reopened ≡ Some fd) × (fd_handed fd.0 (Changes e) (Event r) ≡ 0)
-event_reopened notes (change.Insert era number form ids mode) (event.Inserted given) fd e = absurd (cc)
-event_reopened notes (change.Insert era number form ids mode) (event.Found given) fd e = absurd (cc)
-event_reopened notes (change.Claim era handle ids) (event.Claimed given) fd e = absurd (cc)
-event_reopened notes (change.InsertRoot era form ids mode negotiated) (event.Inserted given) fd e =
-    let a = unless_apart (fd_of form) notes.reopened fd e in (a.0, is_apart (fd_of form).0 fd.0 a.1)
-event_reopened notes (change.InsertHandle era handle number same) (event.Inserted given) fd e =
-    let a = unless_apart same notes.reopened fd e in (a.0, is_apart same.0 fd.0 a.1)
-event_reopened notes (change.Resolve number) (event.Resolved row form ids mode) fd e = absurd (cc)
+event_reopened notes (change.Insert new) (event.Inserted given) fd e = absurd (cc)
+event_reopened notes (change.Insert new) (event.Found given) fd e = absurd (cc)
+event_reopened notes (change.Claim claim) (event.Claimed given) fd e = absurd (cc)
+event_reopened notes (change.InsertRoot new) (event.Inserted given) fd e =
+    let a = unless_apart (fd_of new.form) notes.reopened fd e in (a.0, is_apart (fd_of new.form).0 fd.0 a.1)
+event_reopened notes (change.InsertHandle new) (event.Inserted given) fd e =
+    let a = unless_apart new.fd notes.reopened fd e in (a.0, is_apart new.fd.0 fd.0 a.1)
+event_reopened notes (change.Resolve number) (event.Resolved resolved) fd e = absurd (cc)
 event_reopened notes change.DrawHandle (event.Drawn handle) fd e = (e, refl)
 event_reopened notes change.Clear (event.Cleared era closings) fd e = (e, refl)
 event_reopened notes change.Begin (event.Began era negotiated) fd e = (e, refl)
@@ -332,24 +332,24 @@ reopened_event : (tree : Tree) (past : Past) (t : Tables) (j : ℕ) (job after :
     (was : Resolution) → after.notes.resolved ≡ Some was →
     NotedRight tree after.notes.reopened
     ((settled_by past j (Changes e) (Event r) t.next_row tree).resolved j was.number) after.holds
-reopened_event tree past t j job after (change.Resolve number) (event.Resolved row form ids mode) m k was u =
+reopened_event tree past t j job after (change.Resolve number) (event.Resolved resolved) m k was u =
     λ fd q. let n = ap (λ (z : Notes). z.reopened) m.3 in absurd (cc)
-reopened_event tree past t j job after (change.Insert era number form ids mode) (event.Inserted given) m k was u =
+reopened_event tree past t j job after (change.Insert new) (event.Inserted given) m k was u =
     λ fd q. let n = ap (λ (z : Notes). z.reopened) m.3 in absurd (cc)
-reopened_event tree past t j job after (change.Insert era number form ids mode) (event.Found given) m k was u =
+reopened_event tree past t j job after (change.Insert new) (event.Found given) m k was u =
     λ fd q. let n = ap (λ (z : Notes). z.reopened) m.3 in absurd (cc)
-reopened_event tree past t j job after (change.Claim era handle ids) (event.Claimed given) m k was u =
+reopened_event tree past t j job after (change.Claim claim) (event.Claimed given) m k was u =
     λ fd q. let n = ap (λ (z : Notes). z.reopened) m.3 in absurd (cc)
-reopened_event tree past t j job after (change.InsertRoot era form ids mode negotiated)
+reopened_event tree past t j job after (change.InsertRoot new)
     (event.Inserted given) m k was u =
-    noted_event tree job after (change.InsertRoot era form ids mode negotiated)
+    noted_event tree job after (change.InsertRoot new)
     (event.Inserted given) job.notes.reopened after.notes.reopened (past.resolved j was.number) _ m.0 refl
-    (λ f q. event_reopened job.notes (change.InsertRoot era form ids mode negotiated) (event.Inserted given) f
+    (λ f q. event_reopened job.notes (change.InsertRoot new) (event.Inserted given) f
     (sym (ap (λ (n : Notes). n.reopened) m.3) ∙ q)) (k was (sym (ap (λ (n : Notes). n.resolved) m.3) ∙ u))
-reopened_event tree past t j job after (change.InsertHandle era handle number fd) (event.Inserted given) m k was u =
-    noted_event tree job after (change.InsertHandle era handle number fd)
+reopened_event tree past t j job after (change.InsertHandle new) (event.Inserted given) m k was u =
+    noted_event tree job after (change.InsertHandle new)
     (event.Inserted given) job.notes.reopened after.notes.reopened (past.resolved j was.number) _ m.0 refl
-    (λ f q. event_reopened job.notes (change.InsertHandle era handle number fd) (event.Inserted given) f
+    (λ f q. event_reopened job.notes (change.InsertHandle new) (event.Inserted given) f
     (sym (ap (λ (n : Notes). n.reopened) m.3) ∙ q)) (k was (sym (ap (λ (n : Notes). n.resolved) m.3) ∙ u))
 reopened_event tree past t j job after change.Begin (event.Began era negotiated) m k was u =
     noted_event tree job after change.Begin (event.Began era negotiated) job.notes.reopened after.notes.reopened
@@ -379,31 +379,31 @@ reopened_event tree past t j job after e r m k was u =
 -- an event tells nothing of a descriptor, and a closing brings one only where none is to be closed
 event_told : (notes : Notes) (e : Change) (r : EventReply) →
     (notes_after notes (Changes e) (Event r)).told ≡ notes.told
-event_told notes (change.Insert era number form ids mode) (event.Inserted given) = refl
-event_told notes (change.InsertRoot era form ids mode negotiated) (event.Inserted given) = refl
-event_told notes (change.InsertHandle era handle number fd) (event.Inserted given) = refl
-event_told notes (change.Resolve number) (event.Resolved row form ids mode) = refl
+event_told notes (change.Insert new) (event.Inserted given) = refl
+event_told notes (change.InsertRoot new) (event.Inserted given) = refl
+event_told notes (change.InsertHandle new) (event.Inserted given) = refl
+event_told notes (change.Resolve number) (event.Resolved resolved) = refl
 event_told notes change.DrawHandle (event.Drawn handle) = refl
 event_told notes change.Clear (event.Cleared era closings) = refl
 event_told notes change.Begin (event.Began era negotiated) = refl
 event_told notes change.DrawNode (event.Drawn number) = refl
-event_told notes (change.Insert era number form ids mode) (event.Found given) = refl
-event_told notes (change.Claim era handle ids) (event.Claimed given) = refl
+event_told notes (change.Insert new) (event.Found given) = refl
+event_told notes (change.Claim claim) (event.Claimed given) = refl
 event_told notes _ _ = refl
 
 event_brought : (job : Job) (e : Change) (r : EventReply) (fd : Fd) → Fits job (Changes e) →
     job.notes.brought ≡ Some fd → (notes_after job.notes (Changes e) (Event r)).brought ≡ Some fd
 event_brought job change.TakeClosing r fd f q = let none = f.1 in absurd (cc)
-event_brought job (change.Insert era number form ids mode) (event.Inserted given) fd f q = q
-event_brought job (change.InsertRoot era form ids mode negotiated) (event.Inserted given) fd f q = q
-event_brought job (change.InsertHandle era handle number same) (event.Inserted given) fd f q = q
-event_brought job (change.Resolve number) (event.Resolved row form ids mode) fd f q = q
+event_brought job (change.Insert new) (event.Inserted given) fd f q = q
+event_brought job (change.InsertRoot new) (event.Inserted given) fd f q = q
+event_brought job (change.InsertHandle new) (event.Inserted given) fd f q = q
+event_brought job (change.Resolve number) (event.Resolved resolved) fd f q = q
 event_brought job change.DrawHandle (event.Drawn handle) fd f q = q
 event_brought job change.Clear (event.Cleared era closings) fd f q = q
 event_brought job change.Begin (event.Began era negotiated) fd f q = q
 event_brought job change.DrawNode (event.Drawn number) fd f q = q
-event_brought job (change.Insert era number form ids mode) (event.Found given) fd f q = q
-event_brought job (change.Claim era handle ids) (event.Claimed given) fd f q = q
+event_brought job (change.Insert new) (event.Found given) fd f q = q
+event_brought job (change.Claim claim) (event.Claimed given) fd f q = q
 event_brought job _ _ fd f q = q
 
 event_tells : (job after : Job) (e : Change) (r : EventReply) → MovesBy job (Changes e) (Event r) after → (fd : Fd)
@@ -427,7 +427,7 @@ told_event : (tree : Tree) (job after : Job) (e : Change) (r : EventReply) → M
 told_event tree job after e r m t =
     holds_event (ToldRight tree (Tells after.notes)) job.holds e r after.holds m.0 tt (λ era n own. tt)
     (λ fd x y. λ ids q. absurd (q.1 (brought_untold job after e r m fd x y)))
-    (λ number row mode form its x y. tt) (λ handle number row fd x y. tt)
+    (λ number resolved x y. tt) (λ handle number row fd x y. tt)
     (each_map (ToldRight tree (Tells job.notes)) (ToldRight tree (Tells after.notes)) job.holds
     (λ one. told_less tree (Tells job.notes) (Tells after.notes) one (λ fd ids same q.
     event_tells job after e r m fd ids q)) t)
@@ -439,7 +439,7 @@ ids_event : (tree : Tree) (ids : ObjIds) (was : Option ℕ) (job after : Job) (e
 ids_event tree ids was job after e r m h =
     holds_event (IdsRight tree (Tells after.notes) ids was) job.holds e r after.holds m.0 tt (λ era n own. tt)
     (λ fd x y. λ q. absurd (q.1 (brought_untold job after e r m fd x y)))
-    (λ number row mode form its x y. tt) (λ handle number row fd x y. tt)
+    (λ number resolved x y. tt) (λ handle number row fd x y. tt)
     (each_map (IdsRight tree (Tells job.notes) ids was) (IdsRight tree (Tells after.notes) ids was) job.holds
     (λ one. ids_less tree (Tells job.notes) (Tells after.notes) ids was one (λ fd same q.
     event_tells job after e r m fd ids q)) h)
@@ -503,30 +503,31 @@ given_event : (tree : Tree) (past : Past) (t : Tables) (j : ℕ) (job after : Jo
     Each (RowOpen tree past) t.rows → Knowing tree t.next_row past j job →
     GivenRight tree (Tells after.notes) after.notes.given
     ((settled_by past j (Changes e) (Event r) t.next_row tree).resolved j) after.holds
-given_event tree past t j job after (change.Claim era handle ids) (event.Claimed given) t' well h m rows k =
-    let o = found_object tree past t ids given t' h.1 rows in
-    given_now tree job after (change.Claim era handle ids) (event.Claimed given) given ids _ o.0 o.1 well m
-    (ap (λ (z : Notes). z.given) m.3) (come_now past j given (past.numbers given) ∙ o.3) o.2 k.told
-given_event tree past t j job after (change.Insert era number form ids mode) (event.Found given) t' well h m rows k =
-    let o = found_object tree past t ids given t' h.1 rows in
-    given_now tree job after (change.Insert era number form ids mode) (event.Found given) given ids _ o.0 o.1 well m
-    (ap (λ (z : Notes). z.given) m.3) (come_now past j given (past.numbers given) ∙ o.3) o.2 k.told
-given_event tree past t j job after (change.Insert era number form ids mode) (event.Inserted given) t' well h m rows
+given_event tree past t j job after (change.Claim claim) (event.Claimed given) t' well h m rows k =
+    let o = found_object tree past t claim.ids given.number t' h.1 rows in
+    given_now tree job after (change.Claim claim) (event.Claimed given) given.number claim.ids _ o.0 o.1 well m
+    (ap (λ (z : Notes). z.given) m.3) (come_now past j given.number (past.numbers given.number) ∙ o.3) o.2 k.told
+given_event tree past t j job after (change.Insert new) (event.Found given) t' well h m rows k =
+    let o = found_object tree past t new.ids given.number t' h.1 rows in
+    given_now tree job after (change.Insert new) (event.Found given) given.number new.ids _ o.0 o.1 well m
+    (ap (λ (z : Notes). z.given) m.3) (come_now past j given.number (past.numbers given.number) ∙ o.3) o.2 k.told
+given_event tree past t j job after (change.Insert new) (event.Inserted given) t' well h m rows
     k =
     let fit = m.1 in
-    let o = told_noted tree (fd_of form) ids (past.latest j) job k.told fit.3 (k.latest (fd_of form) fit.1) in
-    given_now tree job after (change.Insert era number form ids mode) (event.Inserted given) given ids _ (fd_of form)
+    let latest = k.latest (fd_of new.form) fit.1 in
+    let o = told_noted tree (fd_of new.form) new.ids (past.latest j) job k.told fit.3 latest in
+    given_now tree job after (change.Insert new) (event.Inserted given) given new.ids _ (fd_of new.form)
     o.0 well m (ap (λ (z : Notes). z.given) m.3) (come_now past j given (past.latest j) ∙ o.2) o.1 k.told
-given_event tree past t j job after (change.Resolve number) (event.Resolved row form ids mode) t' well h m rows k =
+given_event tree past t j job after (change.Resolve number) (event.Resolved resolved) t' well h m rows k =
     λ given q. let n = ap (λ (z : Notes). z.given) m.3 in absurd (cc)
-given_event tree past t j job after (change.InsertRoot era form ids mode negotiated)
+given_event tree past t j job after (change.InsertRoot new)
     (event.Inserted given) t' well h m rows k =
-    given_still tree job after (change.InsertRoot era form ids mode negotiated) (event.Inserted given)
+    given_still tree job after (change.InsertRoot new) (event.Inserted given)
     (past.resolved j) m
     (ap (λ (z : Notes). z.given) m.3) k.given
-given_event tree past t j job after (change.InsertHandle era handle number fd)
+given_event tree past t j job after (change.InsertHandle new)
     (event.Inserted given) t' well h m rows k =
-    given_still tree job after (change.InsertHandle era handle number fd) (event.Inserted given) (past.resolved j) m
+    given_still tree job after (change.InsertHandle new) (event.Inserted given) (past.resolved j) m
     (ap (λ (z : Notes). z.given) m.3) k.given
 given_event tree past t j job after change.Begin (event.Began era negotiated) t' well h m rows k =
     given_still tree job after change.Begin (event.Began era negotiated) (past.resolved j) m
@@ -563,9 +564,9 @@ knows_event tree past t j job after e r t' well a h m rows handles k =
       told = told_event tree job after e r m k.told;
       pins = holds_event (PinRight t'.next_row later.fds) job.holds e r after.holds m.0 tt (λ era n own. tt)
           (λ fd x y. tt)
-          (λ number row mode form ids x y.
-          pin_grows past later t.next_row t'.next_row (hold.Pin row (row_fd form)) g
-          (resolved_pin tree past t number row mode form ids t' a (rw (x, y) at h) rows))
+          (λ number resolved x y.
+          pin_grows past later t.next_row t'.next_row (hold.Pin resolved.row (row_fd resolved.form)) g
+          (resolved_pin tree past t number resolved t' a (rw (x, y) at h) rows))
           (λ handle number row fd x y.
           pin_grows past later t.next_row t'.next_row (hold.HandlePin row fd) g
           (pinned_now tree past t handle number row fd t' a (rw (x, y) at h) handles))
@@ -609,14 +610,14 @@ knows_other tree past later next next' i job g s k = record {
 
 pub resolved_other : (past : Past) (j : ℕ) (e : Change) (r : EventReply) (next : ℕ) (tree : Tree) (i : ℕ) → i ≢ j →
     (settled_by past j (Changes e) (Event r) next tree).resolved i ≡ past.resolved i
-resolved_other past j (change.Resolve number) (event.Resolved row form ids mode) next tree i other =
+resolved_other past j (change.Resolve number) (event.Resolved resolved) next tree i other =
     set_at_other past.resolved j (set_at number (past.numbers number) (past.resolved j)) i other
-resolved_other past j (change.Insert era number form ids mode) (event.Inserted given) next tree i other =
+resolved_other past j (change.Insert new) (event.Inserted given) next tree i other =
     set_at_other past.resolved j (set_at given (past.latest j) (past.resolved j)) i other
-resolved_other past j (change.Insert era number form ids mode) (event.Found given) next tree i other =
-    set_at_other past.resolved j (set_at given (past.numbers given) (past.resolved j)) i other
-resolved_other past j (change.Claim era handle ids) (event.Claimed given) next tree i other =
-    set_at_other past.resolved j (set_at given (past.numbers given) (past.resolved j)) i other
-resolved_other past j (change.InsertRoot era form ids mode negotiated) (event.Inserted given) next tree i other = refl
-resolved_other past j (change.InsertHandle era handle number fd) (event.Inserted given) next tree i other = refl
+resolved_other past j (change.Insert new) (event.Found given) next tree i other =
+    set_at_other past.resolved j (set_at given.number (past.numbers given.number) (past.resolved j)) i other
+resolved_other past j (change.Claim claim) (event.Claimed given) next tree i other =
+    set_at_other past.resolved j (set_at given.number (past.numbers given.number) (past.resolved j)) i other
+resolved_other past j (change.InsertRoot new) (event.Inserted given) next tree i other = refl
+resolved_other past j (change.InsertHandle new) (event.Inserted given) next tree i other = refl
 resolved_other past j _ _ next tree i other = refl

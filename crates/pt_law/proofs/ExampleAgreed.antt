@@ -3,6 +3,7 @@
 use Rattle.std.proofs.Common.{◌≡◌, inl, inr, ℕ, zero, suc, List, [], ◌∷◌, Option, None, Some, true, false}
 use Rattle.std.proofs.Common.{◌∙◌, refl, ap, sym, arith}
 use Rattle.pt_host.specs.declared.ids.ObjIds.{ObjIds}
+use Rattle.pt_session.specs.Change.{Change}
 use Rattle.pt_session.specs.Happens.{agreed, new_row, with_row}
 use Rattle.pt_session.specs.Rows.{AllDie.{none as none_dies}}
 use Rattle.pt_session.specs.Tables.{Tables, empty_tables, nothing_agreed}
@@ -39,14 +40,22 @@ abbrev at_era : ℕ → Tables
 at_era era = record (empty_tables 5) { era = era; negotiated = nothing_agreed }
 
 module _ (form : RowForm) (ids : ObjIds) (mode : ℕ) where
+  abbrev root : ℕ → Negotiated → Change
+  root era said = change.InsertRoot (record {
+    era = era;
+    form = form;
+    ids = ids;
+    mode = mode;
+    negotiated = Some said;
+  })
+
   -- each inserts its root, and job 1 is overtaken
   abbrev turns : List Turn
   turns =
       turn_by 1 (made (Changes change.Clear) (Event (event.Cleared 1 0)))
       ∷ turn_by 0 (made (Changes change.Clear) (Event (event.Cleared 2 0)))
-      ∷ turn_by 0 (made (Changes (change.InsertRoot 2 form ids mode (Some writes_kept))) (Event (event.Inserted 1)))
-      ∷ turn_by 1
-      (made (Changes (change.InsertRoot 1 form ids mode (Some group_told))) (Event (event.Refused Overtaken))) ∷ []
+      ∷ turn_by 0 (made (Changes (root 2 writes_kept)) (Event (event.Inserted 1)))
+      ∷ turn_by 1 (made (Changes (root 1 group_told)) (Event (event.Refused Overtaken))) ∷ []
 
   abbrev rooted : Tables
   rooted = agreed (Some writes_kept) (with_row (at_era 2) (new_row (at_era 2) 1 form ids mode 2))

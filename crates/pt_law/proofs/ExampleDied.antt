@@ -5,9 +5,9 @@ use Rattle.pt_host.specs.Tree.{IsOpenOn}
 use Rattle.pt_host.specs.declared.ids.Fd.{Fd}
 use Rattle.pt_host.specs.declared.ids.ObjIds.{ObjIds}
 use Rattle.pt_session.specs.declared.event.KeptEvent.TheVariants as change
-use Rattle.pt_session.specs.declared.form.RowForm.{RowForm}
 use Rattle.pt_session.specs.declared.form.RowForm.TheVariants.{File}
 use Rattle.pt_session.specs.declared.row.Row.{Row}
+use Rattle.pt_session.specs.declared.reply.Resolved.{Resolved}
 use Rattle.pt_frame.specs.Deed.{Changes, Deed, Step}
 use Rattle.pt_law.specs.Laws.{HasObject, ObjectOf}
 use Rattle.pt_law.specs.Naming.{resolving}
@@ -48,23 +48,25 @@ module _ (world : World) (kept new : Fd) (ids : ObjIds) (mode : ℕ) where
   is_of_its_own inserted on =
       record { object = 0; its = inserted; open_on = on; of_number = λ live. absurd (is_not_live live) }
 
+  abbrev its_row : Resolved
+  its_row = record { row = 7; form = File kept; ids = ids; mode = mode }
+
   -- a job resolved it
   abbrev steps : List Step
-  steps = resolving 1 7 (File kept) ids mode ∷ []
+  steps = resolving 1 its_row ∷ []
 
-  only_one : (before between : List Step) (number row : ℕ) (form : RowForm) (its : ObjIds) (how : ℕ) →
-      steps ≡ before ++ resolving number row form its how ∷ between → number ≡ 1
-  only_one [] between number row form its how e =
-      let same : resolving number row form its how ≡ resolving 1 7 (File kept) ids mode = cc in
+  only_one : (before between : List Step) (number : ℕ) (row : Resolved) →
+      steps ≡ before ++ resolving number row ∷ between → number ≡ 1
+  only_one [] between number row e =
+      let same : resolving number row ≡ resolving 1 its_row = cc in
       ap (λ (step : Step). asked_in step.deed) same
-  only_one (step ∷ []) between number row form its how e = absurd (cc)
-  only_one (step ∷ other ∷ before) between number row form its how e = absurd (cc)
+  only_one (step ∷ []) between number row e = absurd (cc)
+  only_one (step ∷ other ∷ before) between number row e = absurd (cc)
 
   pub opens_another : (job : ℕ) → world.past.resolved job 1 ≡ Some 0 → IsOpenOn world.tree new 1 →
       OpensResolved world job steps new → ⊥
   opens_another job stood on opens =
-      let one = only_one opens.before opens.between opens.number opens.row opens.form opens.ids opens.mode
-      opens.resolved in
+      let one = only_one opens.before opens.between opens.number opens.row opens.resolved in
       let was = subst (λ number. world.past.resolved job number ≡ Some opens.object) one opens.stood_for in
       let same : opens.object ≡ 0 = cc in
       let own = subst (λ object. IsOpenOn world.tree new object) same opens.open_on in
@@ -76,10 +78,7 @@ module _ (world : World) (kept new : Fd) (ids : ObjIds) (mode : ℕ) where
       IsOpenOn world.tree new 0 → OpensResolved world job steps new
   opens_what_it_was job stood since on = record {
     number = 1;
-    row = 7;
-    form = File kept;
-    ids = ids;
-    mode = mode;
+    row = its_row;
     before = [];
     between = [];
     resolved = refl;

@@ -49,7 +49,8 @@ done = finish.Answer answer.Done
 
 module _ (ids : ObjIds) where
   abbrev claiming : Step
-  claiming = made (Changes (change.Claim 0 None ids)) (Event (event.Claimed 2))
+  claiming = made (Changes (change.Claim (record { era = 0; handle = None; ids = ids })))
+      (Event (event.Claimed (record { number = 2 })))
 
   abbrev giving : ℕ → Step
   giving era = made (Changes (change.GiveBack era 2)) (Event (event.Done 0))

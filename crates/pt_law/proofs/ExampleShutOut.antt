@@ -3,11 +3,13 @@
 -- number is given to it.
 use Rattle.std.proofs.Common.{inl, inr, ℕ, List, [], ◌∷◌, refl, arith, None, Some}
 use Rattle.pt_host.specs.declared.ids.ObjIds.{ObjIds}
+use Rattle.pt_session.specs.Change.{Change}
 use Rattle.pt_session.specs.Rows.{AllDie.{none as none_dies}}
 use Rattle.pt_session.proofs.Cases.{cases}
 use Rattle.pt_session.specs.Tables.{Tables, empty_tables, nothing_agreed}
 use Rattle.pt_session.specs.declared.event.KeptEvent.TheVariants as change
 use Rattle.pt_session.specs.declared.reply.EventRefusal.TheVariants.{Overtaken}
+use Rattle.pt_session.specs.declared.reply.GivenNumber.{GivenNumber}
 use Rattle.pt_session.specs.declared.reply.EventReply.TheVariants as event
 use Rattle.pt_frame.specs.Deed.{Changes}
 use Rattle.pt_frame.specs.declared.act.ActReply.TheVariants.{Event}
@@ -47,13 +49,16 @@ overtaken = record {
   cleared = refl;
 }
 
+abbrev claims : ObjIds → Change
+claims ids = change.Claim (record { era = 0; handle = None; ids = ids })
+
 -- it may be told so
 pub is_told : (ids : ObjIds) →
-    TablesGo cleared (Some (Changes (change.Claim 0 None ids))) (Event (event.Refused Overtaken)) cleared
+    TablesGo cleared (Some (Changes (claims ids))) (Event (event.Refused Overtaken)) cleared
 is_told ids = inr ((λ e. absurd (omega (arith, e))), (refl, refl))
 
 -- and may not be given a number
-pub is_given_none : (ids : ObjIds) (number : ℕ) (next : Tables) →
-    TablesGo cleared (Some (Changes (change.Claim 0 None ids))) (Event (event.Claimed number)) next → ⊥
-is_given_none ids number next g =
-    let e = (cases cleared next (change.Claim 0 None ids) (event.Claimed number) g).0 in absurd (omega (arith, e))
+pub is_given_none : (ids : ObjIds) (given : GivenNumber) (next : Tables) →
+    TablesGo cleared (Some (Changes (claims ids))) (Event (event.Claimed given)) next → ⊥
+is_given_none ids given next g =
+    let e = (cases cleared next (claims ids) (event.Claimed given) g).0 in absurd (omega (arith, e))

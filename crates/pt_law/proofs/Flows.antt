@@ -20,14 +20,14 @@ use Rattle.pt_law.specs.Ledger.{one_if, form_slot}
 
 abbrev pub slot_in : Deed → ActReply → ℕ
 slot_in (Changes change.GiveFd) told = 1
-slot_in (Changes (change.Insert era number form ids mode)) (Event (event.Inserted given)) = form_slot form
-slot_in (Changes (change.InsertRoot era form ids mode agreed)) (Event (event.Inserted given)) = form_slot form
-slot_in (Changes (change.InsertHandle era handle number fd)) (Event (event.Inserted given)) = 1
+slot_in (Changes (change.Insert new)) (Event (event.Inserted given)) = form_slot new.form
+slot_in (Changes (change.InsertRoot new)) (Event (event.Inserted given)) = form_slot new.form
+slot_in (Changes (change.InsertHandle new)) (Event (event.Inserted given)) = 1
 slot_in deed told = 0
 
 abbrev pub slot_out : Deed → ActReply → ℕ
 slot_out (Changes change.TakeFd) (Event event.Taken) = 1
-slot_out (Changes change.TakeClosing) (Event (event.Closing fd slot)) = one_if slot
+slot_out (Changes change.TakeClosing) (Event (event.Closing first)) = one_if first.slot
 slot_out deed told = 0
 
 -- what holds weigh

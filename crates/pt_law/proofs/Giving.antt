@@ -14,7 +14,7 @@ use Rattle.pt_session.specs.Happens.{new_row}
 use Rattle.pt_session.specs.Rows.{IsRow}
 use Rattle.pt_session.specs.declared.row.Row.{Row}
 use Rattle.pt_session.proofs.Cases.{GivenAgain, cases}
-use Rattle.pt_session.specs.declared.form.RowForm.{RowForm}
+use Rattle.pt_session.specs.declared.reply.Resolved.{Resolved}
 use Rattle.pt_session.specs.declared.event.KeptEvent.TheVariants as change
 use Rattle.pt_session.specs.declared.reply.EventReply.TheVariants as event
 use Rattle.pt_frame.specs.Deed.{Deed, Calls, Changes, Step}
@@ -77,26 +77,26 @@ gives_latest bound base had w js s next after number ids lt v g m b = go s.step.
     go : (deed : Option Deed) (told : ActReply) → MovesIf (js s.job) deed told after → GivesBy number ids deed told →
         Goes w (record { job = s.job; step = record { deed = deed; reply = told } }) next →
         StandsFor w next s.job number ids
-    go (Some (Changes (change.Claim era handle asked))) (Event (event.Claimed given)) m b g =
+    go (Some (Changes (change.Claim claim))) (Event (event.Claimed given)) m b g =
         let fit = m.1 in
-        let h = cases w.tables next.tables (change.Claim era handle asked) (event.Claimed given) g.made.0 in
+        let h = cases w.tables next.tables (change.Claim claim) (event.Claimed given) g.made.0 in
         moved_on w next s.job number ids g.made.1 (ap (λ (z : Past). z.numbers) g.past)
         (again w s.job (js s.job) fit.0 ids number next.tables v.well k v.right.shown fit.2
         (subst (HoldsTold (js s.job) fit.0) b.1 fit.3)
         (subst (λ i. GivenAgain w.tables i number next.tables) b.1
-        (subst (λ n. GivenAgain w.tables asked n next.tables) b.0 h.1)))
-    go (Some (Changes (change.Insert era drawn form asked mode))) (Event (event.Found given)) m b g =
+        (subst (λ n. GivenAgain w.tables claim.ids n next.tables) b.0 h.1)))
+    go (Some (Changes (change.Insert new))) (Event (event.Found given)) m b g =
         let fit = m.1 in
-        let h = cases w.tables next.tables (change.Insert era drawn form asked mode) (event.Found given) g.made.0 in
+        let h = cases w.tables next.tables (change.Insert new) (event.Found given) g.made.0 in
         moved_on w next s.job number ids g.made.1 (ap (λ (z : Past). z.numbers) g.past)
-        (again w s.job (js s.job) (fd_of form) ids number next.tables v.well k v.right.shown fit.1
-        (subst (HoldsTold (js s.job) (fd_of form)) b.1 fit.3)
+        (again w s.job (js s.job) (fd_of new.form) ids number next.tables v.well k v.right.shown fit.1
+        (subst (HoldsTold (js s.job) (fd_of new.form)) b.1 fit.3)
         (subst (λ i. GivenAgain w.tables i number next.tables) b.1
-        (subst (λ n. GivenAgain w.tables asked n next.tables) b.0 h.1)))
-    go (Some (Changes (change.Insert era drawn form asked mode))) (Event (event.Inserted given)) m b g =
+        (subst (λ n. GivenAgain w.tables new.ids n next.tables) b.0 h.1)))
+    go (Some (Changes (change.Insert new))) (Event (event.Inserted given)) m b g =
         let fit = m.1 in
-        let a = told_noted w.tree (fd_of form) asked (w.past.latest s.job) (js s.job) k.told fit.3
-        (k.latest (fd_of form) fit.1) in (
+        let a = told_noted w.tree (fd_of new.form) new.ids (w.past.latest s.job) (js s.job) k.told fit.3
+        (k.latest (fd_of new.form) fit.1) in (
           a.0,
           subst (λ n. next.past.numbers n ≡ Some a.0) b.0 (ap (λ (z : Past). z.numbers given) g.past
               ∙ set_at_same w.past.numbers given (w.past.latest s.job) ∙ a.2),
@@ -110,12 +110,12 @@ gives_latest bound base had w js s next after number ids lt v g m b = go s.step.
 -- and what was opened last was found
 gives_found : (job after : Job) (number : ℕ) (ids : ObjIds) (deed : Option Deed) (told : ActReply) →
     MovesIf job deed told after → GivesBy number ids deed told → (fd : Fd) × (job.notes.latest ≡ Some fd)
-gives_found job after number ids (Some (Changes (change.Claim era handle asked))) (Event (event.Claimed given)) m b =
+gives_found job after number ids (Some (Changes (change.Claim claim))) (Event (event.Claimed given)) m b =
     (m.1.0, m.1.2)
-gives_found job after number ids (Some (Changes (change.Insert era drawn form asked mode)))
-    (Event (event.Found given)) m b = (fd_of form, m.1.1)
-gives_found job after number ids (Some (Changes (change.Insert era drawn form asked mode)))
-    (Event (event.Inserted given)) m b = (fd_of form, m.1.1)
+gives_found job after number ids (Some (Changes (change.Insert new)))
+    (Event (event.Found given)) m b = (fd_of new.form, m.1.1)
+gives_found job after number ids (Some (Changes (change.Insert new)))
+    (Event (event.Inserted given)) m b = (fd_of new.form, m.1.1)
 gives_found job after number ids _ _ m b = absurd b
 
 -- the number stands for this object, which has these ids
@@ -133,12 +133,12 @@ names_opened w next j number ids was object s e f = subst (Names next number ids
 pub giving_cut : {j parent : ℕ} {name : List ℕ} {number : ℕ} {ids : ObjIds} (turns more : List Turn)
     (p : GivingPlaces turns j parent name number ids) →
     turns ++ more ≡ ((p.opened.before
-    ++ turn_by j (resolving parent p.opened.row p.opened.form p.opened.ids p.opened.mode) ∷ p.opened.between)
+    ++ turn_by j (resolving parent p.opened.resolved) ∷ p.opened.between)
     ++ turn_by j (opening p.opened.dir name p.opened.flags p.opened.made_mode p.opened.fd) ∷ p.until)
     ++ (turn_by j p.give ∷ (p.behind ++ more))
 giving_cut {j = j} {parent = parent} {name = name} turns more p =
     let q = p.opened in
-    let front = q.before ++ turn_by j (resolving parent q.row q.form q.ids q.mode) ∷ q.between in
+    let front = q.before ++ turn_by j (resolving parent q.resolved) ∷ q.between in
     let b = turn_by j (opening q.dir name q.flags q.made_mode q.fd) in
     let give = turn_by j p.give in
     regroup (turns ++ more) front p.until (give ∷ (p.behind ++ more)) b
@@ -149,11 +149,11 @@ giving_cut {j = j} {parent = parent} {name = name} turns more p =
 pub to_give : {j parent : ℕ} {name : List ℕ} {number : ℕ} {ids : ObjIds} {turns : List Turn} {start given : World}
     {p : GivingPlaces turns j parent name number ids} (path : GivingPath start p given) →
     Runs start ((p.opened.before
-    ++ turn_by j (resolving parent p.opened.row p.opened.form p.opened.ids p.opened.mode) ∷ p.opened.between)
+    ++ turn_by j (resolving parent p.opened.resolved) ∷ p.opened.between)
     ++ turn_by j (opening p.opened.dir name p.opened.flags p.opened.made_mode p.opened.fd) ∷ p.until) path.at_give
 to_give {j = j} {parent = parent} {name = name} {start = start} {p = p} path =
     let q = p.opened in
-    runs_append (q.before ++ turn_by j (resolving parent q.row q.form q.ids q.mode) ∷ q.between)
+    runs_append (q.before ++ turn_by j (resolving parent q.resolved) ∷ q.between)
     (turn_by j (opening q.dir name q.flags q.made_mode q.fd) ∷ p.until) start path.named.at_open path.at_give
     (to_open path.named) (path.opened, path.named.opens, path.to_give)
 
@@ -163,7 +163,7 @@ pub giving_law : {j parent : ℕ} {name : List ℕ} {number : ℕ} {ids : ObjIds
 giving_law {j = j} {parent = parent} {name = name} {number = number} {ids = ids} limit bound turns more start given p
     s d path =
     let q = p.opened in
-    let front = (q.before ++ turn_by j (resolving parent q.row q.form q.ids q.mode) ∷ q.between)
+    let front = (q.before ++ turn_by j (resolving parent q.resolved) ∷ q.between)
     ++ turn_by j (opening q.dir name q.flags q.made_mode q.fd) ∷ p.until in
     let give = turn_by j p.give in
     let d2 = subst (AreDisciplined bound) (giving_cut turns more p) d in
@@ -173,10 +173,10 @@ giving_law {j = j} {parent = parent} {name = name} {number = number} {ids = ids}
     let move = next_move give (p.behind ++ more) (v.0 j) own.1 own.2 in
     let found = gives_found (v.0 j) move.0 number ids give.step.deed give.step.reply move.1 p.gives in
     let free = opened_free
-    (steps_of j (q.before ++ turn_by j (resolving parent q.row q.form q.ids q.mode) ∷ q.between)) (steps_of j p.until)
+    (steps_of j (q.before ++ turn_by j (resolving parent q.resolved) ∷ q.between)) (steps_of j p.until)
     q.dir name q.flags q.made_mode q.fd (v.0 j) p.opened_last
     (subst (λ z. Disciplined idle z (v.0 j))
-    (own_to j (q.before ++ turn_by j (resolving parent q.row q.form q.ids q.mode) ∷ q.between) p.until
+    (own_to j (q.before ++ turn_by j (resolving parent q.resolved) ∷ q.between) p.until
     (opening q.dir name q.flags q.made_mode q.fd)) own.0) found.0 found.1 in
     let led = led_law limit bound turns more start path.opened p.opened s d free path.named in
     let last = gives_latest bound _ _ path.at_give v.0 give given move.0 number ids lt v.1 path.gives move.1 p.gives
@@ -195,16 +195,15 @@ giving_law {j = j} {parent = parent} {name = name} {number = number} {ids = ids}
 -- the places of a job's steps: the parent is resolved, the name opened, and the number given, with other steps
 -- between
 unfoldable pub places_of : (j parent : ℕ) (name : List ℕ) (number : ℕ) (ids : ObjIds) (turns : List Turn)
-    (row mode how : ℕ) (form : RowForm) (its : ObjIds) (dir new : Fd) (flags : OpenFlags)
+    (row : Resolved) (how : ℕ) (dir new : Fd) (flags : OpenFlags)
     (first between middle rest : List Step) (give : Step) →
-    steps_of j turns ≡ first ++ resolving parent row form its mode
+    steps_of j turns ≡ first ++ resolving parent row
     ∷ (between ++ opening dir name flags how new ∷ (middle ++ give ∷ rest)) →
     Each (λ (step : Step). ResolvesNone step.deed step.reply) between →
     Each (λ (step : Step). OpensNone step.deed step.reply) middle → GivesBy number ids give.deed give.reply →
     GivingPlaces turns j parent name number ids
-places_of j parent name number ids turns row mode how form its dir new flags first between middle rest give e q r
-    gave =
-    let a = resolving parent row form its mode in
+places_of j parent name number ids turns row how dir new flags first between middle rest give e q r gave =
+    let a = resolving parent row in
     let b = opening dir name flags how new in
     let x = located j turns first a (between ++ b ∷ (middle ++ give ∷ rest)) e in
     let y = located j x.1 between b (middle ++ give ∷ rest) x.4 in
@@ -214,10 +213,7 @@ places_of j parent name number ids turns row mode how form its dir new flags fir
         before = x.0;
         between = y.0;
         later = y.1;
-        row = row;
-        form = form;
-        ids = its;
-        mode = mode;
+        resolved = row;
         dir = dir;
         flags = flags;
         made_mode = how;
@@ -310,22 +306,21 @@ own_quiet N f path _ (skip {step = step} {all = all} gives o) q =
 -- the places of a request that resolves, opens and is given a number on a branch, with other steps between, whatever
 -- its job gives back meanwhile
 pub branch_places : (turns : List Turn) (j parent : ℕ) (name : List ℕ) (number : ℕ) (ids : ObjIds)
-    (path first between middle rest : List Step) (row mode how : ℕ) (form : RowForm) (its : ObjIds) (dir new : Fd)
-    (flags : OpenFlags) (give : Step) → AreOwn path (steps_of j turns) →
-    path ≡ first ++ resolving parent row form its mode
+    (path first between middle rest : List Step) (row : Resolved) (how : ℕ) (dir new : Fd) (flags : OpenFlags)
+    (give : Step) → AreOwn path (steps_of j turns) →
+    path ≡ first ++ resolving parent row
     ∷ (between ++ opening dir name flags how new ∷ (middle ++ give ∷ rest)) →
     Each (λ (step : Step). ResolvesNone step.deed step.reply) between →
     Each (λ (step : Step). OpensNone step.deed step.reply) middle → GivesBy number ids give.deed give.reply →
     GivingPlaces turns j parent name number ids
-branch_places turns j parent name number ids path first between middle rest row mode how form its dir new flags give
-    o e q r gave =
-    let a = resolving parent row form its mode in
+branch_places turns j parent name number ids path first between middle rest row how dir new flags give o e q r gave =
+    let a = resolving parent row in
     let b = opening dir name flags how new in
     let x = own_same path (steps_of j turns) first (between ++ b ∷ (middle ++ give ∷ rest)) a o e in
     let y = own_same (between ++ b ∷ (middle ++ give ∷ rest)) x.back between (middle ++ give ∷ rest) b x.own_back
     refl in
     let z = own_same (middle ++ give ∷ rest) y.back middle rest give y.own_back refl in
-    places_of j parent name number ids turns row mode how form its dir new flags x.front y.front z.front z.back give
+    places_of j parent name number ids turns row how dir new flags x.front y.front z.front z.back give
     (x.are ∙ ap (λ t. x.front ++ a ∷ t) (y.are ∙ ap (λ t. y.front ++ b ∷ t) z.are))
     (own_quiet ResolvesNone (λ deed told h. (returns_none deed told h).0) between y.front y.own_front q)
     (own_quiet OpensNone (λ deed told h. (returns_none deed told h).1) middle z.front z.own_front r) gave
@@ -343,17 +338,16 @@ again_live t ids number t' g =
 
 pub gives_live : (t t' : Tables) (number : ℕ) (ids : ObjIds) (deed : Option Deed) (told : ActReply) →
     GivesBy number ids deed told → TablesGo t deed told t' → IsLive t' number
-gives_live t t' number ids (Some (Changes (change.Claim era handle asked))) (Event (event.Claimed given)) b g =
-    let h = cases t t' (change.Claim era handle asked) (event.Claimed given) g in
-    subst (IsLive t') b.0 (again_live t asked given t' h.1)
-gives_live t t' number ids (Some (Changes (change.Insert era drawn form asked mode))) (Event (event.Found given)) b
+gives_live t t' number ids (Some (Changes (change.Claim claim))) (Event (event.Claimed given)) b g =
+    let h = cases t t' (change.Claim claim) (event.Claimed given) g in
+    subst (IsLive t') b.0 (again_live t claim.ids given.number t' h.1)
+gives_live t t' number ids (Some (Changes (change.Insert new))) (Event (event.Found given)) b
     g =
-    let h = cases t t' (change.Insert era drawn form asked mode) (event.Found given) g in
-    subst (IsLive t') b.0 (again_live t asked given t' h.1)
-gives_live t t' number ids (Some (Changes (change.Insert era drawn form asked mode)))
-    (Event (event.Inserted given)) b g =
-    let h = cases t t' (change.Insert era drawn form asked mode) (event.Inserted given) g in
-    let row : Row = new_row t drawn form asked mode 1 in
+    let h = cases t t' (change.Insert new) (event.Found given) g in
+    subst (IsLive t') b.0 (again_live t new.ids given.number t' h.1)
+gives_live t t' number ids (Some (Changes (change.Insert new))) (Event (event.Inserted given)) b g =
+    let h = cases t t' (change.Insert new) (event.Inserted given) g in
+    let row : Row = new_row t new.number new.form new.ids new.mode 1 in
     (row, subst (λ (z : Tables). IsRow z row) (sym h.4) (t.rows, here), (refl, sym h.3 ∙ b.0))
 gives_live t t' number ids _ _ b g = absurd b
 
@@ -368,15 +362,15 @@ pub two_lookups_law : (limit bound : ℕ) (turns more : List Turn) (start first 
 two_lookups_law limit bound turns more start first second job other parent folder name child number another ids its
     between object one two s d e r k live stands has =
     let q = two.opened in
-    let front = (q.before ++ turn_by other (resolving folder q.row q.form q.ids q.mode) ∷ q.between)
+    let front = (q.before ++ turn_by other (resolving folder q.resolved) ∷ q.between)
     ++ turn_by other (opening q.dir child q.flags q.made_mode q.fd) ∷ two.until in
     let give = turn_by other two.give in
     let same : up_to two ≡ front ++ give ∷ [] =
-    regroup (up_to two) (q.before ++ turn_by other (resolving folder q.row q.form q.ids q.mode) ∷ q.between) two.until
+    regroup (up_to two) (q.before ++ turn_by other (resolving folder q.resolved) ∷ q.between) two.until
     (give ∷ []) (turn_by other (opening q.dir child q.flags q.made_mode q.fd))
     (regroup (up_to two) q.before q.between
     (turn_by other (opening q.dir child q.flags q.made_mode q.fd) ∷ (two.until ++ give ∷ []))
-    (turn_by other (resolving folder q.row q.form q.ids q.mode)) refl) in
+    (turn_by other (resolving folder q.resolved)) refl) in
     let whole : Runs start (front ++ give ∷ []) second =
     subst (λ z. Runs start z second) (sym e ∙ same) (runs_append (up_to one) between start first second r k) in
     let cut = runs_split front (give ∷ []) start second whole in

@@ -202,27 +202,27 @@ said n (Some x) t = refl
 counts_by : (n : ℕ) (t : Tables) (e : Change) (r : EventReply) (after : Tables) → Agree t →
     Case t e r after → live_count n after ≡ given_by n (live_count n t) (Asks e) (Event r)
 counts_by n t change.Begin (event.Began era negotiated) after a h = ap (live_count n) h.2
-counts_by n t (change.Resolve number) (event.Resolved serial form ids mode) after a h =
+counts_by n t (change.Resolve number) (event.Resolved resolved) after a h =
     same_count n t h.0 _ after h.7 refl
 counts_by n t (change.Unpin serial) (event.Done closings) after a h = unpins n t serial closings after h
-counts_by n t (change.Claim era handle ids) (event.Claimed number) after a h = let g = h.1 in
-    rises n number t g.0 after g.1.0 g.2 g.4
-counts_by n t (change.Claim era handle ids) event.Absent after a h = ap (live_count n) h.2
+counts_by n t (change.Claim claim) (event.Claimed given) after a h = let g = h.1 in
+    rises n given.number t g.0 after g.1.0 g.2 g.4
+counts_by n t (change.Claim claim) event.Absent after a h = ap (live_count n) h.2
 counts_by n t change.TakeFd event.Taken after a h = ap (live_count n) h.2
 counts_by n t change.GiveFd event.Given after a h = ap (live_count n) h.1
 counts_by n t change.DrawNode (event.Drawn number) after a h = ap (live_count n) h.2
-counts_by n t (change.Insert era number form ids mode) (event.Inserted given) after a h =
+counts_by n t (change.Insert new) (event.Inserted given) after a h =
     rw h.4 (let e = ap (λ i. is i n) h.3 in omega (arith, e))
-counts_by n t (change.Insert era number form ids mode) (event.Found given) after a h = let g = h.1 in
-    rises n given t g.0 after g.1.0 g.2 g.4
-counts_by n t (change.InsertRoot era form ids mode negotiated) (event.Inserted given) after a h =
-    ap (live_count n) h.4 ∙ said n negotiated (with_row t (new_row t 1 form ids mode 2))
+counts_by n t (change.Insert new) (event.Found given) after a h = let g = h.1 in
+    rises n given.number t g.0 after g.1.0 g.2 g.4
+counts_by n t (change.InsertRoot new) (event.Inserted given) after a h =
+    ap (live_count n) h.4 ∙ said n new.negotiated (with_row t (new_row t 1 new.form new.ids new.mode 2))
     ∙ (let e = ap (λ i. is i n) h.3 in omega (arith, e))
 counts_by n t (change.Forget list) (event.Done closings) after a h = counts_all n t list closings after a h
 counts_by n t (change.GiveBack era number) (event.Done closings) after a h =
     let x = counts_one n number 1 t closings after a h.2 in omega (arith, x)
 counts_by n t change.DrawHandle (event.Drawn handle) after a h = ap (live_count n) h.2
-counts_by n t (change.InsertHandle era handle number fd) (event.Inserted given) after a h = ap (live_count n) h.4
+counts_by n t (change.InsertHandle new) (event.Inserted given) after a h = ap (live_count n) h.4
 counts_by n t (change.PinHandle handle number) (event.Pinned serial fd) after a h = ap (live_count n) h.5.2
 counts_by n t (change.UnpinHandle serial) (event.Done closings) after a h =
     unpins_handle (live_count n) (no_handles n) t serial closings after h
@@ -231,7 +231,7 @@ counts_by n t (change.Release handle number) (event.Done closings) after a h =
 counts_by n t change.Clear (event.Cleared era closings) after a h =
     none_other n after.rows (each_map (λ z. z.live ≡ true → ⊥) (λ z. HasNumber n z →
     ⊥) after.rows (λ z f k. f k.0) (clears t after closings h.1).numbers)
-counts_by n t change.TakeClosing (event.Closing fd slot) after a h = ap (live_count n) h.2
+counts_by n t change.TakeClosing (event.Closing first) after a h = ap (live_count n) h.2
 counts_by n t e (event.Refused why) after a h = ap (live_count n) h.1
 counts_by n t _ _ after a h = absurd h
 

@@ -14,6 +14,7 @@ use Rattle.pt_session.specs.Happens.{new_handle}
 use Rattle.pt_session.specs.Rows.{IsHandleRow, NoRow}
 use Rattle.pt_session.specs.declared.row.HandleRow.{HandleRow}
 use Rattle.pt_session.proofs.Cases.{cases}
+use Rattle.pt_session.specs.declared.event.NewHandle.{NewHandle}
 use Rattle.pt_session.specs.declared.event.KeptEvent.TheVariants as change
 use Rattle.pt_session.specs.declared.reply.EventReply.TheVariants as event
 use Rattle.pt_frame.specs.Deed.{Deed, Calls, Changes, Step}
@@ -52,18 +53,17 @@ comes_there past j number object =
 given_settled : (past : Past) (j number : ℕ) (ids : ObjIds) (deed : Option Deed) (told : ActReply) (row : ℕ)
     (tree : Tree) → GivesBy number ids deed told →
     (settled_if past j deed told row tree).resolved j number ≡ (settled_if past j deed told row tree).numbers number
-given_settled past j number ids (Some (Changes (change.Claim era handle asked))) (Event (event.Claimed given)) row
+given_settled past j number ids (Some (Changes (change.Claim claim))) (Event (event.Claimed given)) row
     tree b =
-    subst (λ n. (come_to past j given (past.numbers given)).resolved j n ≡ past.numbers n) b.0
-    (comes_there past j given (past.numbers given))
-given_settled past j number ids (Some (Changes (change.Insert era drawn form asked mode))) (Event (event.Found given))
+    subst (λ n. (come_to past j given.number (past.numbers given.number)).resolved j n ≡ past.numbers n) b.0
+    (comes_there past j given.number (past.numbers given.number))
+given_settled past j number ids (Some (Changes (change.Insert new))) (Event (event.Found given))
     row tree b =
-    subst (λ n. (come_to past j given (past.numbers given)).resolved j n ≡ past.numbers n) b.0
-    (comes_there past j given (past.numbers given))
-given_settled past j number ids (Some (Changes (change.Insert era drawn form asked mode)))
-    (Event (event.Inserted given)) row tree b =
+    subst (λ n. (come_to past j given.number (past.numbers given.number)).resolved j n ≡ past.numbers n) b.0
+    (comes_there past j given.number (past.numbers given.number))
+given_settled past j number ids (Some (Changes (change.Insert new))) (Event (event.Inserted given)) row tree b =
     let latest = past.latest j in
-    let at : Past = settled past given row (fd_of form) latest in
+    let at : Past = settled past given row (fd_of new.form) latest in
     subst (λ n. (come_to at j given latest).resolved j n ≡ at.numbers n) b.0
     (comes_there at j given latest ∙ sym (set_at_same past.numbers given latest))
 given_settled past j number ids _ _ row tree b = absurd b
@@ -82,30 +82,28 @@ given_same w next j number ids give object b g is =
 
 settled_resolved : (past : Past) (j i : ℕ) (deed : Option Deed) (told : ActReply) (next : ℕ) (tree : Tree) →
     (j ≢ i) ⊎ ComesToNone deed told → (settled_if past j deed told next tree).resolved i ≡ past.resolved i
-settled_resolved past j i (Some (Changes (change.Resolve number))) (Event (event.Resolved row form ids mode)) next
+settled_resolved past j i (Some (Changes (change.Resolve number))) (Event (event.Resolved resolved)) next
     tree (inl e) =
     set_at_other past.resolved j (set_at number (past.numbers number) (past.resolved j)) i (λ k. e (sym k))
-settled_resolved past j i (Some (Changes (change.Claim era handle ids))) (Event (event.Claimed given)) next tree
+settled_resolved past j i (Some (Changes (change.Claim claim))) (Event (event.Claimed given)) next tree
     (inl e) =
-    set_at_other past.resolved j (set_at given (past.numbers given) (past.resolved j)) i (λ k. e (sym k))
-settled_resolved past j i (Some (Changes (change.Insert era number form ids mode))) (Event (event.Found given)) next
+    set_at_other past.resolved j (set_at given.number (past.numbers given.number) (past.resolved j)) i (λ k. e (sym k))
+settled_resolved past j i (Some (Changes (change.Insert new))) (Event (event.Found given)) next
     tree (inl e) =
-    set_at_other past.resolved j (set_at given (past.numbers given) (past.resolved j)) i (λ k. e (sym k))
-settled_resolved past j i (Some (Changes (change.Insert era number form ids mode))) (Event (event.Inserted given))
+    set_at_other past.resolved j (set_at given.number (past.numbers given.number) (past.resolved j)) i (λ k. e (sym k))
+settled_resolved past j i (Some (Changes (change.Insert new))) (Event (event.Inserted given))
     next tree (inl e) =
     set_at_other past.resolved j (set_at given (past.latest j) (past.resolved j)) i (λ k. e (sym k))
-settled_resolved past j i (Some (Changes (change.Resolve number))) (Event (event.Resolved row form ids mode)) next
+settled_resolved past j i (Some (Changes (change.Resolve number))) (Event (event.Resolved resolved)) next
     tree (inr q) = absurd q
-settled_resolved past j i (Some (Changes (change.Claim era handle ids))) (Event (event.Claimed given)) next tree
+settled_resolved past j i (Some (Changes (change.Claim claim))) (Event (event.Claimed given)) next tree
     (inr q) = absurd q
-settled_resolved past j i (Some (Changes (change.Insert era number form ids mode))) (Event (event.Found given)) next
+settled_resolved past j i (Some (Changes (change.Insert new))) (Event (event.Found given)) next
     tree (inr q) = absurd q
-settled_resolved past j i (Some (Changes (change.Insert era number form ids mode))) (Event (event.Inserted given))
+settled_resolved past j i (Some (Changes (change.Insert new))) (Event (event.Inserted given))
     next tree (inr q) = absurd q
-settled_resolved past j i (Some (Changes (change.InsertRoot era form ids mode agreed)))
-    (Event (event.Inserted given)) next tree q = refl
-settled_resolved past j i (Some (Changes (change.InsertHandle era handle number fd)))
-    (Event (event.Inserted given)) next tree q = refl
+settled_resolved past j i (Some (Changes (change.InsertRoot new))) (Event (event.Inserted given)) next tree q = refl
+settled_resolved past j i (Some (Changes (change.InsertHandle new))) (Event (event.Inserted given)) next tree q = refl
 settled_resolved past j i (Some (Calls (call.OpenAt dir name flags mode))) (Host (host.Ok (value.Fd fd))) next tree
     q = refl
 settled_resolved past j i (Some (Calls (call.OpenRoot place flags))) (Host (host.Ok (value.Fd fd))) next tree q = refl
@@ -170,24 +168,26 @@ not_again past given number other object z e =
 settled_stands : (past : Past) (i : ℕ) (deed : Option Deed) (told : ActReply) (next : ℕ) (tree : Tree)
     (j number object : ℕ) → weighed (inserted_as number) deed told ≡ 0 → Stands past j number object →
     Stands (settled_if past i deed told next tree) j number object
-settled_stands past i (Some (Changes (change.Insert era drawn form ids mode))) (Event (event.Inserted given)) next
+settled_stands past i (Some (Changes (change.Insert new))) (Event (event.Inserted given)) next
     tree j number object z h =
-    let at : Past = settled past given next (fd_of form) (past.latest i) in (
+    let at : Past = settled past given next (fd_of new.form) (past.latest i) in (
       not_again past given number (past.latest i) object z h.0,
       comes_again at i given (past.latest i) j number object (λ q. absurd (is_none given number z q)) h.1,
     )
-settled_stands past i (Some (Changes (change.InsertRoot era form ids mode agreed))) (Event (event.Inserted given))
+settled_stands past i (Some (Changes (change.InsertRoot new))) (Event (event.Inserted given))
     next tree j number object z h = (not_again past given number (past.roots i) object z h.0, h.1)
-settled_stands past i (Some (Changes (change.Insert era drawn form ids mode))) (Event (event.Found given)) next tree
+settled_stands past i (Some (Changes (change.Insert new))) (Event (event.Found given)) next tree
     j number object z h =
-    (h.0, comes_again past i given (past.numbers given) j number object (λ q. ap past.numbers q ∙ h.0) h.1)
-settled_stands past i (Some (Changes (change.Claim era handle ids))) (Event (event.Claimed given)) next tree j number
+    let g = given.number in
+    (h.0, comes_again past i g (past.numbers g) j number object (λ q. ap past.numbers q ∙ h.0) h.1)
+settled_stands past i (Some (Changes (change.Claim claim))) (Event (event.Claimed given)) next tree j number
     object z h =
-    (h.0, comes_again past i given (past.numbers given) j number object (λ q. ap past.numbers q ∙ h.0) h.1)
-settled_stands past i (Some (Changes (change.Resolve given))) (Event (event.Resolved row form ids mode)) next tree j
+    let g = given.number in
+    (h.0, comes_again past i g (past.numbers g) j number object (λ q. ap past.numbers q ∙ h.0) h.1)
+settled_stands past i (Some (Changes (change.Resolve given))) (Event (event.Resolved resolved)) next tree j
     number object z h =
     (h.0, comes_again past i given (past.numbers given) j number object (λ q. ap past.numbers q ∙ h.0) h.1)
-settled_stands past i (Some (Changes (change.InsertHandle era handle same fd))) (Event (event.Inserted given)) next
+settled_stands past i (Some (Changes (change.InsertHandle new))) (Event (event.Inserted given)) next
     tree j number object z h = h
 settled_stands past i (Some (Calls (call.OpenAt dir name flags mode))) (Host (host.Ok (value.Fd fd))) next tree j
     number object z h = h
@@ -232,7 +232,8 @@ inserts_open limit bound turns more start now next j era handle number fd told s
     let move = next_move t more (v.0 j) own.1 own.2 in
     let n = inserted_open now.tree now.tables.next_row now.past j (v.0 j) number fd (v.1.right.knows j lt)
     move.1.1.2 in
-    let h = cases now.tables next.tables (change.InsertHandle era handle number fd) (event.Inserted told) g.made.0 in
+    let new : NewHandle = record { era = era; handle = handle; number = number; fd = fd } in
+    let h = cases now.tables next.tables (change.InsertHandle new) (event.Inserted told) g.made.0 in
     let row : HandleRow = new_handle now.tables handle number fd in (
       n.0,
       n.2,
@@ -251,7 +252,7 @@ abbrev up_to_insert : {turns : List Turn} {j parent : ℕ} {name : List ℕ} {nu
     {p : GivingPlaces turns j parent name number ids} {handle : ℕ} → HandlePlace p handle → List Turn
 up_to_insert {j = j} {parent = parent} {name = name} {p = p} h =
     ((p.opened.before
-    ++ turn_by j (resolving parent p.opened.row p.opened.form p.opened.ids p.opened.mode) ∷ p.opened.between)
+    ++ turn_by j (resolving parent p.opened.resolved) ∷ p.opened.between)
     ++ turn_by j (opening p.opened.dir name p.opened.flags p.opened.made_mode p.opened.fd) ∷ p.until)
     ++ turn_by j p.give ∷ h.until
 
@@ -262,7 +263,7 @@ insert_cut : {j parent : ℕ} {name : List ℕ} {number : ℕ} {ids : ObjIds} {h
     ∷ (h.later ++ more)
 insert_cut {j = j} {parent = parent} {name = name} {number = number} {handle = handle} turns more p h =
     let q = p.opened in
-    let front = (q.before ++ turn_by j (resolving parent q.row q.form q.ids q.mode) ∷ q.between)
+    let front = (q.before ++ turn_by j (resolving parent q.resolved) ∷ q.between)
     ++ turn_by j (opening q.dir name q.flags q.made_mode q.fd) ∷ p.until in
     let t = inserting_handle j h.era handle number h.fd (Event (event.Inserted h.told)) in
     regroup (turns ++ more) front h.until (t ∷ (h.later ++ more)) (turn_by j p.give)
@@ -275,7 +276,7 @@ to_insert : {j parent : ℕ} {name : List ℕ} {number : ℕ} {ids : ObjIds} {tu
     (path : HandlePath start h inserted) → Runs start (up_to_insert h) path.at_insert
 to_insert {j = j} {parent = parent} {name = name} {start = start} {p = p} {h = h} path =
     let q = p.opened in
-    runs_append ((q.before ++ turn_by j (resolving parent q.row q.form q.ids q.mode) ∷ q.between)
+    runs_append ((q.before ++ turn_by j (resolving parent q.resolved) ∷ q.between)
     ++ turn_by j (opening q.dir name q.flags q.made_mode q.fd) ∷ p.until) (turn_by j p.give ∷ h.until) start
     path.giving.at_give path.at_insert (to_give path.giving) (path.given, path.giving.gives, path.to_insert)
 
@@ -297,7 +298,7 @@ once_given : {j parent : ℕ} {name : List ℕ} {number : ℕ} {ids : ObjIds} {h
 once_given {j = j} {parent = parent} {name = name} {number = number} {ids = ids} {handle = handle} limit bound turns
     more start last p h s d path apart =
     let q = p.opened in
-    let front = (q.before ++ turn_by j (resolving parent q.row q.form q.ids q.mode) ∷ q.between)
+    let front = (q.before ++ turn_by j (resolving parent q.resolved) ∷ q.between)
     ++ turn_by j (opening q.dir name q.flags q.made_mode q.fd) ∷ p.until in
     let give = turn_by j p.give in
     let t = inserting_handle j h.era handle number h.fd (Event (event.Inserted h.told)) in

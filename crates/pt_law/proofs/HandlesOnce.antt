@@ -75,10 +75,10 @@ handle_flow : (job : Job) (t : Tables) (deed : Deed) (told : ActReply) (t' : Tab
     is_drawn n after.notes.handle + handle_inserted_as n deed told ≤ is_drawn n job.notes.handle + draws n deed told
 handle_flow job t (Changes change.DrawHandle) (Event (event.Drawn k)) t' after g m n =
     let a = ap (λ (z : Notes). is_drawn n z.handle) m.3 in omega (arith, a)
-handle_flow job t (Changes (change.InsertHandle era handle number fd)) (Event (event.Inserted given)) t' after g m n =
+handle_flow job t (Changes (change.InsertHandle new)) (Event (event.Inserted given)) t' after g m n =
     let a = ap (λ (z : Notes). is_drawn n z.handle) m.3 in
     let b = ap (is_drawn n) m.1.1 in
-    let c = ap (λ i. is i n) (cases t t' (change.InsertHandle era handle number fd) (event.Inserted given) g).3 in
+    let c = ap (λ i. is i n) (cases t t' (change.InsertHandle new) (event.Inserted given) g).3 in
     omega (arith, a, b, c)
 handle_flow job t (Calls (call.OpenRoot path flags)) (Host (host.Ok (value.Fd fd))) t' after g m n =
     let a = ap (λ (z : Notes). is_drawn n z.handle) m.3 in
@@ -96,18 +96,18 @@ handle_flow job t (Changes change.Begin) (Event (event.Began era agreed)) t' aft
     let a = ap (λ (z : Notes). is_drawn n z.handle) m.3 in omega (arith, a)
 handle_flow job t (Changes change.Clear) (Event (event.Cleared era closings)) t' after g m n =
     let a = ap (λ (z : Notes). is_drawn n z.handle) m.3 in omega (arith, a)
-handle_flow job t (Changes (change.Resolve number)) (Event (event.Resolved row form ids mode)) t' after g m n =
+handle_flow job t (Changes (change.Resolve number)) (Event (event.Resolved resolved)) t' after g m n =
     let a = ap (λ (z : Notes). is_drawn n z.handle) m.3 in omega (arith, a)
 handle_flow job t (Changes change.DrawNode) (Event (event.Drawn k)) t' after g m n =
     let a = ap (λ (z : Notes). is_drawn n z.handle) m.3 in omega (arith, a)
-handle_flow job t (Changes (change.Insert era number form ids mode)) (Event (event.Inserted given)) t' after g m n =
+handle_flow job t (Changes (change.Insert new)) (Event (event.Inserted given)) t' after g m n =
     let a = ap (λ (z : Notes). is_drawn n z.handle) m.3 in omega (arith, a)
-handle_flow job t (Changes (change.InsertRoot era form ids mode agreed))
+handle_flow job t (Changes (change.InsertRoot new))
     (Event (event.Inserted given)) t' after g m n = let a = ap (λ (z : Notes). is_drawn n z.handle) m.3 in
     omega (arith, a)
-handle_flow job t (Changes (change.Insert era number form ids mode)) (Event (event.Found given)) t' after g m n =
+handle_flow job t (Changes (change.Insert new)) (Event (event.Found given)) t' after g m n =
     let a = ap (λ (z : Notes). is_drawn n z.handle) m.3 in omega (arith, a)
-handle_flow job t (Changes (change.Claim era handle ids)) (Event (event.Claimed given)) t' after g m n =
+handle_flow job t (Changes (change.Claim claim)) (Event (event.Claimed given)) t' after g m n =
     let a = ap (λ (z : Notes). is_drawn n z.handle) m.3 in omega (arith, a)
 handle_flow job t (Calls (call.Stat fd)) (Host (host.Ok (value.Stat stat))) t' after g m n =
     let a = ap (λ (z : Notes). is_drawn n z.handle) m.3 in omega (arith, a)

@@ -86,9 +86,12 @@ loses deed told t f s p q = record {
   handle_pins = λ k. let a = q k in let b = total_takes (handle_pin_held k) t in omega (arith, a, b);
 }
 
+abbrev first_is : Fd → Bool → ActReply
+first_is fd slot = Event (event.Closing (record { fd = fd; slot = slot }))
+
 brings : (fd : Fd) (slot : Bool) (holds after : List Hold) →
-    after ≡ brought (taken_in (Event (event.Closing fd slot))) ++ holds →
-    Handed holds (Changes change.TakeClosing) (Event (event.Closing fd slot)) after
+    after ≡ brought (taken_in (first_is fd slot)) ++ holds →
+    Handed holds (Changes change.TakeClosing) (first_is fd slot) after
 brings fd true holds after e =
     rw e (record {
       fds = λ k. omega arith;
@@ -150,17 +153,17 @@ pub handed : (holds : List Hold) (deed : Deed) (told : ActReply) (after : List H
 handed holds (Calls asked) told after m =
     handed_called asked (sort_of asked) refl (fds_of asked) told holds after m
 handed holds (Changes change.Begin) told after m = keeps _ _ holds after m (λ _. refl) refl (λ _. refl) (λ _. refl)
-handed holds (Changes (change.Resolve number)) (Event (event.Resolved row form ids mode)) after m =
-    gains (Changes (change.Resolve number)) (Event (event.Resolved row form ids mode)) m (λ _.
+handed holds (Changes (change.Resolve number)) (Event (event.Resolved resolved)) after m =
+    gains (Changes (change.Resolve number)) (Event (event.Resolved resolved)) m (λ _.
     omega arith) (omega arith) (λ _. omega arith) (λ _. omega arith)
 handed holds (Changes (change.Resolve number)) told after m =
     keeps _ _ holds after m (λ _. refl) refl (λ _. refl) (λ _. refl)
 handed holds (Changes (change.Unpin row)) told after m =
     loses (Changes (change.Unpin row)) told m.1 (λ _. omega arith) (omega arith) (λ _. omega arith) (λ _. omega arith)
-handed holds (Changes (change.Claim era handle ids)) (Event (event.Claimed number)) after m =
-    gains (Changes (change.Claim era handle ids)) (Event (event.Claimed number)) m (λ _.
+handed holds (Changes (change.Claim claim)) (Event (event.Claimed given)) after m =
+    gains (Changes (change.Claim claim)) (Event (event.Claimed given)) m (λ _.
     omega arith) (omega arith) (λ _. omega arith) (λ _. omega arith)
-handed holds (Changes (change.Claim era handle ids)) told after m =
+handed holds (Changes (change.Claim claim)) told after m =
     keeps _ _ holds after m (λ _. refl) refl (λ _. refl) (λ _. refl)
 handed holds (Changes change.TakeFd) (Event event.Taken) after m =
     gains (Changes change.TakeFd) (Event event.Taken) m (λ _. omega arith) (omega arith) (λ _. omega arith) (λ _.
@@ -169,30 +172,30 @@ handed holds (Changes change.TakeFd) told after m = keeps _ _ holds after m (λ 
 handed holds (Changes change.GiveFd) told after m =
     loses (Changes change.GiveFd) told m (λ _. omega arith) (omega arith) (λ _. omega arith) (λ _. omega arith)
 handed holds (Changes change.DrawNode) told after m = keeps _ _ holds after m (λ _. refl) refl (λ _. refl) (λ _. refl)
-handed holds (Changes (change.Insert era number form ids mode)) (Event (event.Inserted given)) after m = record {
+handed holds (Changes (change.Insert new)) (Event (event.Inserted given)) after m = record {
   fds = λ f. let a = total_takes (fd_held f) m.2 in let b = total_takes (fd_held f) m.3 in
       let c = total_takes (fd_held f) m.4 in omega (arith, a, b, c);
   slots = let a = total_takes slot_held m.2 in let b = total_takes slot_held m.3 in
-      let c = total_takes slot_held m.4 in let d = form_held form in omega (arith, a, b, c, d);
+      let c = total_takes slot_held m.4 in let d = form_held new.form in omega (arith, a, b, c, d);
   pins = λ k. let a = total_takes (pin_held k) m.2 in let b = total_takes (pin_held k) m.3 in
       let c = total_takes (pin_held k) m.4 in omega (arith, a, b, c);
   handle_pins = λ k. let a = total_takes (handle_pin_held k) m.2 in let b = total_takes (handle_pin_held k) m.3 in
       let c = total_takes (handle_pin_held k) m.4 in omega (arith, a, b, c);
 }
-handed holds (Changes (change.Insert era number form ids mode)) (Event (event.Found given)) after m =
-    gains (Changes (change.Insert era number form ids mode)) (Event (event.Found given)) m (λ _.
+handed holds (Changes (change.Insert new)) (Event (event.Found given)) after m =
+    gains (Changes (change.Insert new)) (Event (event.Found given)) m (λ _.
     omega arith) (omega arith) (λ _. omega arith) (λ _. omega arith)
-handed holds (Changes (change.Insert era number form ids mode)) told after m =
+handed holds (Changes (change.Insert new)) told after m =
     keeps _ _ holds after m (λ _. refl) refl (λ _. refl) (λ _. refl)
-handed holds (Changes (change.InsertRoot era form ids mode agreed)) (Event (event.Inserted given)) after m = record {
+handed holds (Changes (change.InsertRoot new)) (Event (event.Inserted given)) after m = record {
   fds = λ f. let a = total_takes (fd_held f) m.1 in let b = total_takes (fd_held f) m.2 in omega (arith, a, b);
-  slots = let a = total_takes slot_held m.1 in let b = total_takes slot_held m.2 in let d = form_held form in
+  slots = let a = total_takes slot_held m.1 in let b = total_takes slot_held m.2 in let d = form_held new.form in
       omega (arith, a, b, d);
   pins = λ k. let a = total_takes (pin_held k) m.1 in let b = total_takes (pin_held k) m.2 in omega (arith, a, b);
   handle_pins = λ k. let a = total_takes (handle_pin_held k) m.1 in let b = total_takes (handle_pin_held k) m.2 in
       omega (arith, a, b);
 }
-handed holds (Changes (change.InsertRoot era form ids mode agreed)) told after m =
+handed holds (Changes (change.InsertRoot new)) told after m =
     keeps _ _ holds after m (λ _. refl) refl (λ _. refl) (λ _. refl)
 handed holds (Changes (change.Forget list)) told after m =
     keeps _ _ holds after m (λ _. refl) refl (λ _. refl) (λ _. refl)
@@ -201,14 +204,14 @@ handed holds (Changes (change.GiveBack era number)) told after m =
     omega arith)
 handed holds (Changes change.DrawHandle) told after m =
     keeps _ _ holds after m (λ _. refl) refl (λ _. refl) (λ _. refl)
-handed holds (Changes (change.InsertHandle era handle number fd)) (Event (event.Inserted given)) after m = record {
+handed holds (Changes (change.InsertHandle new)) (Event (event.Inserted given)) after m = record {
   fds = λ f. let a = total_takes (fd_held f) m.1 in let b = total_takes (fd_held f) m.2 in omega (arith, a, b);
   slots = let a = total_takes slot_held m.1 in let b = total_takes slot_held m.2 in omega (arith, a, b);
   pins = λ k. let a = total_takes (pin_held k) m.1 in let b = total_takes (pin_held k) m.2 in omega (arith, a, b);
   handle_pins = λ k. let a = total_takes (handle_pin_held k) m.1 in let b = total_takes (handle_pin_held k) m.2 in
       omega (arith, a, b);
 }
-handed holds (Changes (change.InsertHandle era handle number fd)) told after m =
+handed holds (Changes (change.InsertHandle new)) told after m =
     keeps _ _ holds after m (λ _. refl) refl (λ _. refl) (λ _. refl)
 handed holds (Changes (change.PinHandle handle number)) (Event (event.Pinned row fd)) after m =
     gains (Changes (change.PinHandle handle number)) (Event (event.Pinned row fd)) m (λ _.
@@ -221,7 +224,8 @@ handed holds (Changes (change.UnpinHandle row)) told after m =
 handed holds (Changes (change.Release handle number)) told after m =
     keeps _ _ holds after m (λ _. refl) refl (λ _. refl) (λ _. refl)
 handed holds (Changes change.Clear) told after m = keeps _ _ holds after m (λ _. refl) refl (λ _. refl) (λ _. refl)
-handed holds (Changes change.TakeClosing) (Event (event.Closing fd slot)) after m = brings fd slot holds after m
+handed holds (Changes change.TakeClosing) (Event (event.Closing first)) after m =
+    brings first.fd first.slot holds after m
 handed holds (Changes change.TakeClosing) told after m =
     keeps (Changes change.TakeClosing) told holds after m (λ _. refl) refl (λ _. refl) (λ _. refl)
 

@@ -164,7 +164,7 @@ to_opened : {j number : ℕ} {name : List ℕ} {turns : List Turn} {start opened
     {p : NamePlaces turns j number name} (path : NamePath start p opened) → Runs start (up_to_name p) opened
 to_opened {j = j} {number = number} {name = name} {start = start} {opened = opened} {p = p} path =
     let b = turn_by j (opening p.dir name p.flags p.made_mode p.fd) in
-    runs_append p.before (turn_by j (resolving number p.row p.form p.ids p.mode) ∷ (p.between ++ b ∷ [])) start
+    runs_append p.before (turn_by j (resolving number p.resolved) ∷ (p.between ++ b ∷ [])) start
     path.at_resolve opened path.to_resolve (
       path.resolved,
       path.resolves,
@@ -174,7 +174,7 @@ to_opened {j = j} {number = number} {name = name} {start = start} {opened = open
 -- what is left of a path behind the world in which the number is resolved
 from_resolve : {j number : ℕ} {name : List ℕ} {turns : List Turn} {start opened : World}
     {p : NamePlaces turns j number name} (path : NamePath start p opened) →
-    Runs path.at_resolve (turn_by j (resolving number p.row p.form p.ids p.mode)
+    Runs path.at_resolve (turn_by j (resolving number p.resolved)
     ∷ (p.between ++ turn_by j (opening p.dir name p.flags p.made_mode p.fd) ∷ [])) opened
 from_resolve {j = j} {name = name} {opened = opened} {p = p} path =
     let b = turn_by j (opening p.dir name p.flags p.made_mode p.fd) in (
@@ -192,7 +192,7 @@ module _ {turns : List Turn} {j parent : ℕ} {name : List ℕ} {number : ℕ} {
   q = p.opened
 
   abbrev a : Turn
-  a = turn_by j (resolving parent q.row q.form q.ids q.mode)
+  a = turn_by j (resolving parent q.resolved)
 
   abbrev b : Turn
   b = turn_by j (opening q.dir name q.flags q.made_mode q.fd)
@@ -264,7 +264,7 @@ module _ {turns : List Turn} {j parent : ℕ} {name : List ℕ} {number : ℕ} {
   carried : 0 < fds_carried m.making.fd.0 (steps_of j front)
   carried =
       let n = m.making in
-      let r = turn_by j (resolving parent n.row n.form n.ids n.mode) in
+      let r = turn_by j (resolving parent n.resolved) in
       let o = turn_by j (opening n.dir name n.flags n.made_mode n.fd) in
       let v = reach limit bound front (until ++ behind) start path.made_in s disciplined to_made in
       let own : steps_of j front ≡ steps_of j (n.before ++ r ∷ n.between) ++ o.step ∷ [] =

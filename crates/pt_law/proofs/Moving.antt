@@ -10,12 +10,13 @@ use Rattle.pt_host.specs.declared.seat.HostSeat.{HostSeat}
 use Rattle.pt_host.specs.declared.op.KeptHostOp.TheVariants as call
 use Rattle.pt_host.specs.declared.reply.HostReply.TheVariants as host
 use Rattle.pt_host.specs.declared.reply.HostValue.TheVariants as value
+use Rattle.pt_session.specs.declared.form.RowForm.{RowForm}
 use Rattle.pt_session.specs.declared.form.RowForm.TheVariants.{File}
 use Rattle.pt_session.specs.declared.event.KeptEvent.TheVariants as change
 use Rattle.pt_session.specs.declared.reply.EventReply.TheVariants as event
 use Rattle.pt_frame.specs.Deed.{Deed, Calls, Changes, IsStepOf, MayFailToCopy}
 use Rattle.pt_frame.specs.Held.{is_scope, fd_in, is_some_fd, is_same_fd, closed, slotted, unslotted}
-use Rattle.pt_frame.specs.Held.{handed, held, held_called, row_fd}
+use Rattle.pt_frame.specs.Held.{handed, handed_of, held, held_called, row_fd}
 use Rattle.pt_frame.specs.Frame.{giving}
 use Rattle.pt_frame.specs.Replies.{closings_in}
 use Rattle.pt_frame.specs.declared.act.ActReply.{ActReply}
@@ -24,6 +25,7 @@ use Rattle.pt_frame.specs.declared.hold.Hold.{Hold}
 use Rattle.pt_frame.specs.declared.hold.Hold.TheVariants as hold
 use Rattle.pt_law.specs.Discipline.{ShiftsCalled, Notes, Job, at_job, notes_after, newly, unless, with_root, MovesBy}
 use Rattle.pt_law.specs.Discipline.{MovesIf}
+use Rattle.pt_law.specs.World.{fd_of}
 use Rattle.pt_law.specs.Told.{MayBeTold, StepMayBeTold}
 use Rattle.pt_law.specs.Keeps.{LiesOnSlot, LiesOnSlot.{here as lies_here, there as lies_there}}
 use Rattle.pt_law.specs.Keeps.{MayCall, MayMake, Lasts, unscoped, MayOpen}
@@ -154,6 +156,10 @@ hands fd _ (lies_there {one = one} {holds = holds} n l) =
           (there k.2),
     )
 
+hands_form : (form : RowForm) (holds : List Hold) → LiesOnSlot (fd_of form) holds →
+    (mid : List Hold) × Takes (hold.Fd (fd_of form)) holds mid × Takes hold.Slot mid (handed_of (row_fd form) holds)
+hands_form (File fd) holds l = hands fd holds l
+
 -- a call of a request's own part
 call_shifts : (sort : Sort) (names : List Fd) (told : ActReply) (holds : List Hold) → MayCall sort names holds →
     ShiftsCalled sort names (unscoped holds) told (unscoped (held_called sort told holds))
@@ -170,32 +176,33 @@ may_move : (deed : Deed) (told : ActReply) (holds : List Hold) (notes : Notes) �
     (owing_job (unscoped (held deed told holds)) (closings_in deed told) (notes_after notes deed told))
 may_move (Calls asked) told holds notes m =
     (call_shifts (sort_of asked) (fds_of asked) told holds m.0, m.1, refl, refl)
-may_move (Changes (change.Resolve number)) (Event (event.Resolved row form ids mode)) holds notes m =
-    (takes_plain (takes_laid (hold.Pin row (row_fd form)) holds) refl, m.1, omega arith, refl)
-may_move (Changes (change.Claim era handle ids)) (Event (event.Claimed number)) holds notes m =
-    (takes_plain (takes_laid (hold.Count era number) holds) refl, m.1, omega arith, refl)
+may_move (Changes (change.Resolve number)) (Event (event.Resolved resolved)) holds notes m =
+    (takes_plain (takes_laid (hold.Pin resolved.row (row_fd resolved.form)) holds) refl, m.1, omega arith, refl)
+may_move (Changes (change.Claim claim)) (Event (event.Claimed given)) holds notes m =
+    (takes_plain (takes_laid (hold.Count claim.era given.number) holds) refl, m.1, omega arith, refl)
 may_move (Changes change.TakeFd) (Event event.Taken) holds notes m =
     (takes_plain (takes_slotted holds) refl, m.1, omega arith, refl)
-may_move (Changes (change.Insert era number (File fd) ids mode)) (Event (event.Inserted given)) holds notes m =
-    let k = hands fd holds m.0 in (
+may_move (Changes (change.Insert new)) (Event (event.Inserted given)) holds notes m =
+    let k = hands_form new.form holds m.0 in
+    let left = handed_of (row_fd new.form) holds in (
       (
         unscoped k.0,
-        unscoped (handed fd holds),
+        unscoped left,
         takes_plain k.1 refl,
         takes_plain k.2 refl,
-        takes_plain (takes_laid (hold.Count era given) (handed fd holds)) refl,
+        takes_plain (takes_laid (hold.Count new.era given) left) refl,
       ),
       m.1,
       omega arith,
       refl,
     )
-may_move (Changes (change.Insert era number form ids mode)) (Event (event.Found given)) holds notes m =
-    (takes_plain (takes_laid (hold.Count era given) holds) refl, m.1, omega arith, refl)
-may_move (Changes (change.InsertRoot era (File fd) ids mode agreed)) (Event (event.Inserted given)) holds notes m =
-    let k = hands fd holds m.0 in
+may_move (Changes (change.Insert new)) (Event (event.Found given)) holds notes m =
+    (takes_plain (takes_laid (hold.Count new.era given.number) holds) refl, m.1, omega arith, refl)
+may_move (Changes (change.InsertRoot new)) (Event (event.Inserted given)) holds notes m =
+    let k = hands_form new.form holds m.0 in
     ((unscoped k.0, takes_plain k.1 refl, takes_plain k.2 refl), m.1, omega arith, refl)
-may_move (Changes (change.InsertHandle era handle number fd)) (Event (event.Inserted given)) holds notes m =
-    let k = hands fd holds m.0 in
+may_move (Changes (change.InsertHandle new)) (Event (event.Inserted given)) holds notes m =
+    let k = hands new.fd holds m.0 in
     ((unscoped k.0, takes_plain k.1 refl, takes_plain k.2 refl), m.1, omega arith, refl)
 may_move (Changes (change.PinHandle handle number)) (Event (event.Pinned row fd)) holds notes m =
     (takes_plain (takes_laid (hold.HandlePin row fd) holds) refl, m.1, omega arith, refl)
@@ -227,14 +234,14 @@ may_bring_none (Calls (call.Close fd)) told holds notes m b = ap (unless fd) b
 may_bring_none (Calls (call.Stat fd)) (Host (host.Ok (value.Stat stat))) holds notes m b = b
 may_bring_none (Changes change.Begin) (Event (event.Began era agreed)) holds notes m b = b
 may_bring_none (Changes change.Clear) (Event (event.Cleared era closings)) holds notes m b = b
-may_bring_none (Changes (change.Resolve number)) (Event (event.Resolved row form ids mode)) holds notes m b = b
+may_bring_none (Changes (change.Resolve number)) (Event (event.Resolved resolved)) holds notes m b = b
 may_bring_none (Changes change.DrawNode) (Event (event.Drawn number)) holds notes m b = b
 may_bring_none (Changes change.DrawHandle) (Event (event.Drawn handle)) holds notes m b = b
-may_bring_none (Changes (change.InsertHandle era handle number fd)) (Event (event.Inserted given)) holds notes m b = b
-may_bring_none (Changes (change.Insert era number form ids mode)) (Event (event.Inserted given)) holds notes m b = b
-may_bring_none (Changes (change.Insert era number form ids mode)) (Event (event.Found given)) holds notes m b = b
-may_bring_none (Changes (change.Claim era handle ids)) (Event (event.Claimed given)) holds notes m b = b
-may_bring_none (Changes (change.InsertRoot era form ids mode agreed)) (Event (event.Inserted given)) holds notes m b =
+may_bring_none (Changes (change.InsertHandle new)) (Event (event.Inserted given)) holds notes m b = b
+may_bring_none (Changes (change.Insert new)) (Event (event.Inserted given)) holds notes m b = b
+may_bring_none (Changes (change.Insert new)) (Event (event.Found given)) holds notes m b = b
+may_bring_none (Changes (change.Claim claim)) (Event (event.Claimed given)) holds notes m b = b
+may_bring_none (Changes (change.InsertRoot new)) (Event (event.Inserted given)) holds notes m b =
     b
 may_bring_none (Changes change.TakeClosing) told holds notes m b = absurd m.0
 may_bring_none deed told holds notes m b = b

@@ -6,14 +6,13 @@ use Rattle.pt_host.specs.Words.{Each, Takes}
 use Rattle.pt_host.specs.Flags.{includes, o_creat, o_path}
 use Rattle.pt_host.specs.Tree.{Tree, IsOpenOn}
 use Rattle.pt_host.specs.declared.ids.Fd.{Fd}
-use Rattle.pt_host.specs.declared.ids.ObjIds.{ObjIds}
 use Rattle.pt_host.specs.declared.flags.OpenFlags.{OpenFlags}
 use Rattle.pt_host.specs.declared.op.KeptHostOp.TheVariants as call
 use Rattle.pt_host.specs.declared.reply.HostReply.TheVariants as host
 use Rattle.pt_host.specs.declared.reply.HostValue.TheVariants as value
 use Rattle.pt_session.specs.Tables.{Agree, IsSoundRow}
 use Rattle.pt_session.proofs.Cases.{cases}
-use Rattle.pt_session.specs.declared.form.RowForm.{RowForm}
+use Rattle.pt_session.specs.declared.reply.Resolved.{Resolved}
 use Rattle.pt_session.specs.declared.event.KeptEvent.TheVariants as change
 use Rattle.pt_session.specs.declared.reply.EventReply.TheVariants as event
 use Rattle.pt_frame.specs.Deed.{Deed, Calls, Changes, Step}
@@ -46,25 +45,20 @@ some_same e = cc
 settled_objects : (past : Past) (j : ℕ) (deed : Option Deed) (told : ActReply) (next : ℕ) (tree : Tree) (row : ℕ) →
     row < next → (settled_if past j deed told next tree).objects row ≡ past.objects row
 settled_objects past j None told next tree row l = refl
-settled_objects past j (Some (Changes (change.Insert era number form ids mode)))
-    (Event (event.Inserted given)) next tree row l =
+settled_objects past j (Some (Changes (change.Insert new))) (Event (event.Inserted given)) next tree row l =
     set_at_other past.objects next (past.latest j) row (λ e. absurd (omega (arith, e, l)))
-settled_objects past j (Some (Changes (change.InsertRoot era form ids mode agreed)))
-    (Event (event.Inserted given)) next tree row l =
+settled_objects past j (Some (Changes (change.InsertRoot new))) (Event (event.Inserted given)) next tree row l =
     set_at_other past.objects next (past.roots j) row (λ e. absurd (omega (arith, e, l)))
-settled_objects past j (Some (Changes (change.InsertHandle era handle number fd)))
-    (Event (event.Inserted given)) next tree row l =
-    set_at_other past.objects next (past.resolved j number) row (λ e. absurd (omega (arith, e, l)))
+settled_objects past j (Some (Changes (change.InsertHandle new))) (Event (event.Inserted given)) next tree row l =
+    set_at_other past.objects next (past.resolved j new.number) row (λ e. absurd (omega (arith, e, l)))
 settled_objects past j (Some (Changes (change.Resolve number)))
-    (Event (event.Resolved serial form ids mode)) next tree row l = refl
+    (Event (event.Resolved resolved)) next tree row l = refl
 settled_objects past j (Some (Calls (call.OpenAt dir name flags mode)))
     (Host (host.Ok (value.Fd fd))) next tree row l = refl
 settled_objects past j (Some (Calls (call.OpenRoot place flags))) (Host (host.Ok (value.Fd fd))) next tree row l =
     refl
-settled_objects past j (Some (Changes (change.Insert era number form ids mode)))
-    (Event (event.Found given)) next tree row l = refl
-settled_objects past j (Some (Changes (change.Claim era handle ids))) (Event (event.Claimed given)) next tree row l =
-    refl
+settled_objects past j (Some (Changes (change.Insert new))) (Event (event.Found given)) next tree row l = refl
+settled_objects past j (Some (Changes (change.Claim claim))) (Event (event.Claimed given)) next tree row l = refl
 settled_objects past j (Some _) _ next tree row l = refl
 
 objects_step : (w : World) (s : Turn) (next : World) (row : ℕ) → Agree w.tables → Goes w s next →
@@ -92,20 +86,15 @@ settled_latest past j i (Some (Calls (call.OpenAt dir name flags mode))) (Host (
     (inl e) = set_at_other past.latest j (object_of (tree.opened fd.0)) i (λ k. e (sym k))
 settled_latest past j i (Some (Calls (call.OpenAt dir name flags mode))) (Host (host.Ok (value.Fd fd))) next tree
     (inr q) = absurd q
-settled_latest past j i (Some (Changes (change.Insert era number form ids mode)))
-    (Event (event.Inserted given)) next tree q = refl
-settled_latest past j i (Some (Changes (change.InsertRoot era form ids mode agreed)))
-    (Event (event.Inserted given)) next tree q = refl
-settled_latest past j i (Some (Changes (change.InsertHandle era handle number fd)))
-    (Event (event.Inserted given)) next tree q = refl
+settled_latest past j i (Some (Changes (change.Insert new))) (Event (event.Inserted given)) next tree q = refl
+settled_latest past j i (Some (Changes (change.InsertRoot new))) (Event (event.Inserted given)) next tree q = refl
+settled_latest past j i (Some (Changes (change.InsertHandle new))) (Event (event.Inserted given)) next tree q = refl
 settled_latest past j i (Some (Changes (change.Resolve number)))
-    (Event (event.Resolved serial form ids mode)) next tree q = refl
+    (Event (event.Resolved resolved)) next tree q = refl
 settled_latest past j i (Some (Calls (call.OpenRoot place flags))) (Host (host.Ok (value.Fd fd))) next tree q = refl
 settled_latest past j i None told next tree q = refl
-settled_latest past j i (Some (Changes (change.Insert era number form ids mode)))
-    (Event (event.Found given)) next tree q = refl
-settled_latest past j i (Some (Changes (change.Claim era handle ids))) (Event (event.Claimed given)) next tree q =
-    refl
+settled_latest past j i (Some (Changes (change.Insert new))) (Event (event.Found given)) next tree q = refl
+settled_latest past j i (Some (Changes (change.Claim claim))) (Event (event.Claimed given)) next tree q = refl
 settled_latest past j i (Some _) _ next tree q = refl
 
 pub latest_step : (w : World) (i : ℕ) (s : Turn) (next : World) → Goes w s next →
@@ -134,11 +123,12 @@ latest_stays j (s ∷ ss) w last r q =
 
 -- the directory that a number stood for when it was resolved
 resolve_at : (bound : ℕ) (base had : ℕ → ℕ) (w : World) (js : ℕ →
-    Job) (j parent row mode : ℕ) (form : RowForm) (ids : ObjIds) (next : World) → Inv bound base had w js →
-    Goes w (turn_by j (resolving parent row form ids mode)) next →
-    (directory : ℕ) × ObjectOf w parent directory × (w.past.objects row ≡ Some directory) × (row < w.tables.next_row)
-resolve_at bound base had w js j parent row mode form ids next v g =
-    let h = cases w.tables next.tables (change.Resolve parent) (event.Resolved row form ids mode) g.made.0 in
+    Job) (j parent : ℕ) (row : Resolved) (next : World) → Inv bound base had w js →
+    Goes w (turn_by j (resolving parent row)) next →
+    (directory : ℕ) × ObjectOf w parent directory × (w.past.objects row.row ≡ Some directory)
+    × (row.row < w.tables.next_row)
+resolve_at bound base had w js j parent row next v g =
+    let h = cases w.tables next.tables (change.Resolve parent) (event.Resolved row) g.made.0 in
     let o = each_replaced (RowOpen w.tree w.past) h.7.1 v.right.shown in
     let s = each_replaced (IsSoundRow w.tables.next_row) h.7.1 v.tabled.agree.sound in (
       o.object,
@@ -188,7 +178,7 @@ root_resolved fd notes = grind arith
 
 notes_resolved : (notes : Notes) (deed : Deed) (told : ActReply) → ResolvesNone (Some deed) told →
     (was : Resolution) → (notes_after notes deed told).resolved ≡ Some was → notes.resolved ≡ Some was
-notes_resolved notes (Changes (change.Resolve number)) (Event (event.Resolved row form ids mode)) q was e = absurd q
+notes_resolved notes (Changes (change.Resolve number)) (Event (event.Resolved resolved)) q was e = absurd q
 notes_resolved notes (Calls (call.OpenRoot path flags)) (Host (host.Ok (value.Fd fd))) q was e =
     sym (root_resolved fd (newly fd notes)) ∙ e
 notes_resolved notes (Calls (call.OpenPath dir path flags)) (Host (host.Ok (value.Fd fd))) q was e = e
@@ -201,13 +191,11 @@ notes_resolved notes (Changes change.Begin) (Event (event.Began era agreed)) q w
 notes_resolved notes (Changes change.Clear) (Event (event.Cleared era closings)) q was e = e
 notes_resolved notes (Changes change.DrawNode) (Event (event.Drawn number)) q was e = e
 notes_resolved notes (Changes change.DrawHandle) (Event (event.Drawn number)) q was e = e
-notes_resolved notes (Changes (change.InsertHandle era handle number fd)) (Event (event.Inserted given)) q was e = e
-notes_resolved notes (Changes (change.Insert era number form ids mode)) (Event (event.Inserted given)) q was e =
-    absurd (cc)
-notes_resolved notes (Changes (change.Insert era number form ids mode)) (Event (event.Found given)) q was e =
-    absurd (cc)
-notes_resolved notes (Changes (change.Claim era handle ids)) (Event (event.Claimed given)) q was e = absurd (cc)
-notes_resolved notes (Changes (change.InsertRoot era form ids mode agreed)) (Event (event.Inserted given)) q was e = e
+notes_resolved notes (Changes (change.InsertHandle new)) (Event (event.Inserted given)) q was e = e
+notes_resolved notes (Changes (change.Insert new)) (Event (event.Inserted given)) q was e = absurd (cc)
+notes_resolved notes (Changes (change.Insert new)) (Event (event.Found given)) q was e = absurd (cc)
+notes_resolved notes (Changes (change.Claim claim)) (Event (event.Claimed given)) q was e = absurd (cc)
+notes_resolved notes (Changes (change.InsertRoot new)) (Event (event.Inserted given)) q was e = e
 notes_resolved notes _ _ q was e = e
 
 move_resolved : (job after : Job) (deed : Option Deed) (told : ActReply) → ResolvesNone deed told →
@@ -240,17 +228,17 @@ notes_latest notes (Calls (call.Close same)) told q fd e = (unless_apart same no
 notes_latest notes (Calls (call.Stat same)) (Host (host.Ok (value.Stat stat))) q fd e = e
 notes_latest notes (Changes change.Begin) (Event (event.Began era agreed)) q fd e = e
 notes_latest notes (Changes change.Clear) (Event (event.Cleared era closings)) q fd e = e
-notes_latest notes (Changes (change.Resolve number)) (Event (event.Resolved row form ids mode)) q fd e = e
+notes_latest notes (Changes (change.Resolve number)) (Event (event.Resolved resolved)) q fd e = e
 notes_latest notes (Changes change.DrawNode) (Event (event.Drawn number)) q fd e = e
 notes_latest notes (Changes change.DrawHandle) (Event (event.Drawn number)) q fd e = e
-notes_latest notes (Changes (change.InsertHandle era handle number same)) (Event (event.Inserted given)) q fd e =
-    (unless_apart same notes.latest fd e).0
-notes_latest notes (Changes (change.Insert era number form ids mode)) (Event (event.Inserted given)) q fd e =
-    (unless_apart (fd_of form) notes.latest fd e).0
-notes_latest notes (Changes (change.Insert era number form ids mode)) (Event (event.Found given)) q fd e = e
-notes_latest notes (Changes (change.Claim era handle ids)) (Event (event.Claimed given)) q fd e = e
-notes_latest notes (Changes (change.InsertRoot era form ids mode agreed)) (Event (event.Inserted given)) q fd e =
-    (unless_apart (fd_of form) notes.latest fd e).0
+notes_latest notes (Changes (change.InsertHandle new)) (Event (event.Inserted given)) q fd e =
+    (unless_apart new.fd notes.latest fd e).0
+notes_latest notes (Changes (change.Insert new)) (Event (event.Inserted given)) q fd e =
+    (unless_apart (fd_of new.form) notes.latest fd e).0
+notes_latest notes (Changes (change.Insert new)) (Event (event.Found given)) q fd e = e
+notes_latest notes (Changes (change.Claim claim)) (Event (event.Claimed given)) q fd e = e
+notes_latest notes (Changes (change.InsertRoot new)) (Event (event.Inserted given)) q fd e =
+    (unless_apart (fd_of new.form) notes.latest fd e).0
 notes_latest notes _ _ q fd e = e
 
 move_latest : (job after : Job) (deed : Option Deed) (told : ActReply) → OpensNone deed told →
@@ -289,12 +277,12 @@ own_to j before between step =
     steps_append j before (turn_by j step ∷ between)
     ∙ ap (λ z. steps_of j before ++ z) (steps_at j (turn_by j step) between refl)
 
-last_resolved : (first between : List Step) (number row mode : ℕ) (form : RowForm) (ids : ObjIds) (job : Job) →
+last_resolved : (first between : List Step) (number : ℕ) (row : Resolved) (job : Job) →
     Each (λ (step : Step). ResolvesNone step.deed step.reply) between →
-    Disciplined idle (first ++ resolving number row form ids mode ∷ between) job → (was : Resolution) →
-    job.notes.resolved ≡ Some was → was ≡ record { number = number; row = row }
-last_resolved first between number row mode form ids job q d was e =
-    let k = disciplined_split first (resolving number row form ids mode ∷ between) idle job d in
+    Disciplined idle (first ++ resolving number row ∷ between) job → (was : Resolution) →
+    job.notes.resolved ≡ Some was → was ≡ record { number = number; row = row.row }
+last_resolved first between number row job q d was e =
+    let k = disciplined_split first (resolving number row ∷ between) idle job d in
     some_same (sym (resolved_stays between k.2.0 job q k.2.2 was e) ∙ ap (λ (z : Notes). z.resolved) k.2.1.3)
 
 -- the run, cut behind the steps between
@@ -308,10 +296,10 @@ pub and_more : (turns more before later : List Turn) (a : Turn) → turns ≡ be
 and_more turns more before later a e = ap (λ z. z ++ more) e ∙ append_assoc before (a ∷ later) more
 
 pub named_cut : {j number : ℕ} {name : List ℕ} (turns more : List Turn) (p : NamePlaces turns j number name) →
-    turns ++ more ≡ (p.before ++ turn_by j (resolving number p.row p.form p.ids p.mode) ∷ p.between)
+    turns ++ more ≡ (p.before ++ turn_by j (resolving number p.resolved) ∷ p.between)
     ++ (turn_by j (opening p.dir name p.flags p.made_mode p.fd) ∷ (p.later ++ more))
 named_cut {j = j} {number = number} {name = name} turns more p =
-    let a = turn_by j (resolving number p.row p.form p.ids p.mode) in
+    let a = turn_by j (resolving number p.resolved) in
     let b = turn_by j (opening p.dir name p.flags p.made_mode p.fd) in
     regroup (turns ++ more) p.before p.between (b ∷ (p.later ++ more)) a
     (and_more turns more p.before (p.between ++ b ∷ p.later) a p.in_turn
@@ -320,9 +308,9 @@ named_cut {j = j} {number = number} {name = name} turns more p =
 -- a path up to where the name is opened
 pub to_open : {j number : ℕ} {name : List ℕ} {turns : List Turn} {start opened : World}
     {p : NamePlaces turns j number name} (path : NamePath start p opened) →
-    Runs start (p.before ++ turn_by j (resolving number p.row p.form p.ids p.mode) ∷ p.between) path.at_open
+    Runs start (p.before ++ turn_by j (resolving number p.resolved) ∷ p.between) path.at_open
 to_open {j = j} {number = number} {start = start} {p = p} path =
-    runs_append p.before (turn_by j (resolving number p.row p.form p.ids p.mode) ∷ p.between) start path.at_resolve
+    runs_append p.before (turn_by j (resolving number p.resolved) ∷ p.between) start path.at_resolve
     path.at_open path.to_resolve (path.resolved, path.resolves, path.to_open)
 
 -- on every path through the places the name is opened in the directory that the number stood for
@@ -331,29 +319,29 @@ pub dir_law : {j number : ℕ} {name : List ℕ} (limit bound : ℕ) (turns more
     (path : NamePath start p opened) →
     (directory : ℕ) × ObjectOf path.at_resolve number directory × IsOpenOn path.at_open.tree p.dir directory
 dir_law {j = j} {number = number} {name = name} limit bound turns more start opened p s d path =
-    let a = turn_by j (resolving number p.row p.form p.ids p.mode) in
+    let a = turn_by j (resolving number p.resolved) in
     let b = turn_by j (opening p.dir name p.flags p.made_mode p.fd) in
     let end1 : List Turn = b ∷ (p.later ++ more) in
     let front1 : List Turn = p.before ++ a ∷ p.between in
     let d1 = subst (AreDisciplined bound) (named_cut turns more p) d in
     let v0 = reach limit bound p.before (a ∷ (p.between ++ end1)) start path.at_resolve s
     (subst (AreDisciplined bound) (append_assoc p.before (a ∷ p.between) end1) d1) path.to_resolve in
-    let directory = resolve_at bound _ _ path.at_resolve v0.0 j number p.row p.mode p.form p.ids path.resolved v0.1
+    let directory = resolve_at bound _ _ path.at_resolve v0.0 j number p.resolved path.resolved v0.1
     path.resolves in
     let v1 = reach limit bound front1 end1 start path.at_open s d1 (to_open path) in
     let lt = owner_of bound front1 b (p.later ++ more) d1.owners in
     let between = v1.2 j lt in
     let move = next_move b (p.later ++ more) (v1.0 j) between.1 between.2 in
     let fit = move.1.1 in
-    let same = last_resolved (steps_of j p.before) (steps_of j p.between) number p.row p.mode p.form p.ids
+    let same = last_resolved (steps_of j p.before) (steps_of j p.between) number p.resolved
     (v1.0 j)
     p.resolved_last (subst (λ z. Disciplined idle z (v1.0 j)) (own_to j p.before p.between
-    (resolving number p.row p.form p.ids p.mode)) between.0) fit.0 fit.2 in
-    let pin : Takes (hold.Pin p.row (Some p.dir)) (v1.0 j).holds fit.1 =
+    (resolving number p.resolved)) between.0) fit.0 fit.2 in
+    let pin : Takes (hold.Pin p.resolved.row (Some p.dir)) (v1.0 j).holds fit.1 =
     subst (λ (r : Resolution). Takes (hold.Pin r.row (Some p.dir)) (v1.0 j).holds fit.1) same fit.3 in
-    let kept = row_stays path.at_resolve a path.resolved p.between path.at_open p.row directory.0
+    let kept = row_stays path.at_resolve a path.resolved p.between path.at_open p.resolved.row directory.0
     v0.1.tabled.agree path.resolves path.to_open directory.3 directory.2 in
-    let pinned = pinned_open bound _ _ path.at_open v1.0 j p.row p.dir lt v1.1 pin in
+    let pinned = pinned_open bound _ _ path.at_open v1.0 j p.resolved.row p.dir lt v1.1 pin in
     let at_dir : directory.0 ≡ pinned.0 = some_same (sym kept ∙ pinned.2) in
     (directory.0, directory.1, subst (IsOpenOn path.at_open.tree p.dir) (sym at_dir) pinned.1)
 

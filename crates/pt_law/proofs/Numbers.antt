@@ -53,16 +53,15 @@ drawn_flow : (job : Job) (t : Tables) (deed : Deed) (told : ActReply) (t' : Tabl
     is_drawn n after.notes.drawn + inserted_as n deed told ≤ is_drawn n job.notes.drawn + draws n deed told
 drawn_flow job t (Changes change.DrawNode) (Event (event.Drawn k)) t' after g m n ne =
     let a = ap (λ (z : Notes). is_drawn n z.drawn) m.3 in omega (arith, a)
-drawn_flow job t (Changes (change.Insert era number form ids mode)) (Event (event.Inserted given)) t' after g m n ne =
+drawn_flow job t (Changes (change.Insert new)) (Event (event.Inserted given)) t' after g m n ne =
     let a = ap (λ (z : Notes). is_drawn n z.drawn) m.3 in
     let b = ap (is_drawn n) m.1.2 in
-    let c = ap (λ i. is i n) (cases t t' (change.Insert era number form ids mode) (event.Inserted given) g).3 in
+    let c = ap (λ i. is i n) (cases t t' (change.Insert new) (event.Inserted given) g).3 in
     omega (arith, a, b, c)
-drawn_flow job t (Changes (change.InsertRoot era form ids mode agreed))
-    (Event (event.Inserted given)) t' after g m n ne =
+drawn_flow job t (Changes (change.InsertRoot new)) (Event (event.Inserted given)) t' after g m n ne =
     let a = ap (λ (z : Notes). is_drawn n z.drawn) m.3 in
     let c = is_apart given n (λ e. ne (sym e
-    ∙ (cases t t' (change.InsertRoot era form ids mode agreed) (event.Inserted given) g).3)) in
+    ∙ (cases t t' (change.InsertRoot new) (event.Inserted given) g).3)) in
     omega (arith, a, c)
 drawn_flow job t (Calls (call.OpenRoot path flags)) (Host (host.Ok (value.Fd fd))) t' after g m n ne =
     let a = ap (λ (z : Notes). is_drawn n z.drawn) m.3 in
@@ -76,20 +75,20 @@ drawn_flow job t (Calls (call.OpenAt dir name flags mode)) (Host (host.Ok (value
     let a = ap (λ (z : Notes). is_drawn n z.drawn) m.3 in omega (arith, a)
 drawn_flow job t (Changes change.Clear) (Event (event.Cleared era closings)) t' after g m n ne =
     let a = ap (λ (z : Notes). is_drawn n z.drawn) m.3 in omega (arith, a)
-drawn_flow job t (Changes (change.Resolve number)) (Event (event.Resolved row form ids mode)) t' after g m n ne =
+drawn_flow job t (Changes (change.Resolve number)) (Event (event.Resolved resolved)) t' after g m n ne =
     let a = ap (λ (z : Notes). is_drawn n z.drawn) m.3 in omega (arith, a)
 drawn_flow job t (Calls (call.Reopen fd flags)) (Host (host.Ok (value.Fd new))) t' after g m n ne =
     let a = ap (λ (z : Notes). is_drawn n z.drawn) m.3 in omega (arith, a)
 drawn_flow job t (Changes change.DrawHandle) (Event (event.Drawn handle)) t' after g m n ne =
     let a = ap (λ (z : Notes). is_drawn n z.drawn) m.3 in omega (arith, a)
-drawn_flow job t (Changes (change.InsertHandle era handle number fd))
+drawn_flow job t (Changes (change.InsertHandle new))
     (Event (event.Inserted given)) t' after g m n ne = let a = ap (λ (z : Notes). is_drawn n z.drawn) m.3 in
     omega (arith, a)
 drawn_flow job t (Changes change.Begin) (Event (event.Began era agreed)) t' after g m n ne =
     let a = ap (λ (z : Notes). is_drawn n z.drawn) m.3 in omega (arith, a)
-drawn_flow job t (Changes (change.Insert era number form ids mode)) (Event (event.Found given)) t' after g m n ne =
+drawn_flow job t (Changes (change.Insert new)) (Event (event.Found given)) t' after g m n ne =
     let a = ap (λ (z : Notes). is_drawn n z.drawn) m.3 in omega (arith, a)
-drawn_flow job t (Changes (change.Claim era handle ids)) (Event (event.Claimed given)) t' after g m n ne =
+drawn_flow job t (Changes (change.Claim claim)) (Event (event.Claimed given)) t' after g m n ne =
     let a = ap (λ (z : Notes). is_drawn n z.drawn) m.3 in omega (arith, a)
 drawn_flow job t (Calls (call.Stat fd)) (Host (host.Ok (value.Stat stat))) t' after g m n ne =
     let a = ap (λ (z : Notes). is_drawn n z.drawn) m.3 in omega (arith, a)

@@ -56,29 +56,29 @@ IsClearing deed told = ⊥
 era_by : (t : Tables) (e : Change) (r : EventReply) (after : Tables) → Case t e r after →
     (IsClearing (Some (Changes e)) (Event r) → ⊥) → after.era ≡ t.era
 era_by t change.Begin (event.Began era negotiated) after h n = ap (λ (z : Tables). z.era) h.2
-era_by t (change.Resolve number) (event.Resolved serial form ids mode) after h n = ap (λ (z : Tables). z.era) h.7.2
+era_by t (change.Resolve number) (event.Resolved resolved) after h n = ap (λ (z : Tables). z.era) h.7.2
 era_by t (change.Unpin serial) (event.Done closings) after h n = unpins era_of no_rows t serial closings after h
-era_by t (change.Claim era handle ids) (event.Claimed number) after h n = ap (λ (z : Tables). z.era) h.1.4.2
-era_by t (change.Claim era handle ids) event.Absent after h n = ap (λ (z : Tables). z.era) h.2
+era_by t (change.Claim claim) (event.Claimed given) after h n = ap (λ (z : Tables). z.era) h.1.4.2
+era_by t (change.Claim claim) event.Absent after h n = ap (λ (z : Tables). z.era) h.2
 era_by t change.TakeFd event.Taken after h n = ap (λ (z : Tables). z.era) h.2
 era_by t change.GiveFd event.Given after h n = ap (λ (z : Tables). z.era) h.1
 era_by t change.DrawNode (event.Drawn number) after h n = ap (λ (z : Tables). z.era) h.2
-era_by t (change.Insert era number form ids mode) (event.Inserted given) after h n = ap (λ (z : Tables). z.era) h.4
-era_by t (change.Insert era number form ids mode) (event.Found given) after h n = ap (λ (z : Tables). z.era) h.1.4.2
-era_by t (change.InsertRoot era form ids mode negotiated) (event.Inserted given) after h n =
-    ap (λ (z : Tables). z.era) h.4 ∙ said negotiated (with_row t (new_row t 1 form ids mode 2))
+era_by t (change.Insert new) (event.Inserted given) after h n = ap (λ (z : Tables). z.era) h.4
+era_by t (change.Insert new) (event.Found given) after h n = ap (λ (z : Tables). z.era) h.1.4.2
+era_by t (change.InsertRoot new) (event.Inserted given) after h n =
+    ap (λ (z : Tables). z.era) h.4 ∙ said new.negotiated (with_row t (new_row t 1 new.form new.ids new.mode 2))
 era_by t (change.Forget list) (event.Done closings) after h n = forgets_all era_of no_rows t list closings after h
 era_by t (change.GiveBack era number) (event.Done closings) after h n =
     forgets_one era_of no_rows t number 1 closings after h.2
 era_by t change.DrawHandle (event.Drawn handle) after h n = ap (λ (z : Tables). z.era) h.2
-era_by t (change.InsertHandle era handle number fd) (event.Inserted given) after h n = ap (λ (z : Tables). z.era) h.4
+era_by t (change.InsertHandle new) (event.Inserted given) after h n = ap (λ (z : Tables). z.era) h.4
 era_by t (change.PinHandle handle number) (event.Pinned serial fd) after h n = ap (λ (z : Tables). z.era) h.5.2
 era_by t (change.UnpinHandle serial) (event.Done closings) after h n =
     unpins_handle era_of no_handles t serial closings after h
 era_by t (change.Release handle number) (event.Done closings) after h n =
     handle_dies era_of no_handles t h.0 closings after h.2
 era_by t change.Clear (event.Cleared era closings) after h n = absurd (n tt)
-era_by t change.TakeClosing (event.Closing fd slot) after h n = ap (λ (z : Tables). z.era) h.2
+era_by t change.TakeClosing (event.Closing first) after h n = ap (λ (z : Tables). z.era) h.2
 era_by t e (event.Refused why) after h n = ap (λ (z : Tables). z.era) h.1
 era_by t _ _ after h n = absurd h
 
@@ -159,33 +159,33 @@ own_event j t t' job after turns turns' change.Begin (event.Began was negotiated
 own_event j t t' job after turns turns' change.Clear (event.Cleared was closings) h m f k era q =
     let case = cases t t' change.Clear (event.Cleared was closings) h in
     inl (some_same (sym q ∙ ap (λ (z : Notes). z.era) m.3) ∙ case.2 ∙ sym (ap (λ (z : Tables). z.era) case.1.7))
-own_event j t t' job after turns turns' (change.Resolve number) (event.Resolved serial form ids mode) h m f k era q =
+own_event j t t' job after turns turns' (change.Resolve number) (event.Resolved resolved) h m f k era q =
     unmoved j t t' job after turns turns' (ap (λ (z : Notes). z.era) m.3)
-    (era_event t (change.Resolve number) (event.Resolved serial form ids mode) t' h (λ c. c)) f k era q
+    (era_event t (change.Resolve number) (event.Resolved resolved) t' h (λ c. c)) f k era q
 own_event j t t' job after turns turns' change.DrawNode (event.Drawn number) h m f k era q =
     unmoved j t t' job after turns turns' (ap (λ (z : Notes). z.era) m.3)
     (era_event t change.DrawNode (event.Drawn number) t' h (λ c. c)) f k era q
 own_event j t t' job after turns turns' change.DrawHandle (event.Drawn handle) h m f k era q =
     unmoved j t t' job after turns turns' (ap (λ (z : Notes). z.era) m.3)
     (era_event t change.DrawHandle (event.Drawn handle) t' h (λ c. c)) f k era q
-own_event j t t' job after turns turns' (change.Insert own number form ids mode)
+own_event j t t' job after turns turns' (change.Insert new)
     (event.Inserted given) h m f k era q =
     unmoved j t t' job after turns turns' (ap (λ (z : Notes). z.era) m.3)
-    (era_event t (change.Insert own number form ids mode) (event.Inserted given) t' h (λ c. c)) f k era q
-own_event j t t' job after turns turns' (change.InsertRoot own form ids mode negotiated)
+    (era_event t (change.Insert new) (event.Inserted given) t' h (λ c. c)) f k era q
+own_event j t t' job after turns turns' (change.InsertRoot new)
     (event.Inserted given) h m f k era q =
     unmoved j t t' job after turns turns' (ap (λ (z : Notes). z.era) m.3)
-    (era_event t (change.InsertRoot own form ids mode negotiated) (event.Inserted given) t' h (λ c. c)) f k era q
-own_event j t t' job after turns turns' (change.InsertHandle own handle number fd)
+    (era_event t (change.InsertRoot new) (event.Inserted given) t' h (λ c. c)) f k era q
+own_event j t t' job after turns turns' (change.InsertHandle new)
     (event.Inserted given) h m f k era q =
     unmoved j t t' job after turns turns' (ap (λ (z : Notes). z.era) m.3)
-    (era_event t (change.InsertHandle own handle number fd) (event.Inserted given) t' h (λ c. c)) f k era q
-own_event j t t' job after turns turns' (change.Insert own number form ids mode) (event.Found given) h m f k era q =
+    (era_event t (change.InsertHandle new) (event.Inserted given) t' h (λ c. c)) f k era q
+own_event j t t' job after turns turns' (change.Insert new) (event.Found given) h m f k era q =
     unmoved j t t' job after turns turns' (ap (λ (z : Notes). z.era) m.3)
-    (era_event t (change.Insert own number form ids mode) (event.Found given) t' h (λ c. c)) f k era q
-own_event j t t' job after turns turns' (change.Claim own handle ids) (event.Claimed given) h m f k era q =
+    (era_event t (change.Insert new) (event.Found given) t' h (λ c. c)) f k era q
+own_event j t t' job after turns turns' (change.Claim claim) (event.Claimed given) h m f k era q =
     unmoved j t t' job after turns turns' (ap (λ (z : Notes). z.era) m.3)
-    (era_event t (change.Claim own handle ids) (event.Claimed given) t' h (λ c. c)) f k era q
+    (era_event t (change.Claim claim) (event.Claimed given) t' h (λ c. c)) f k era q
 own_event j t t' job after turns turns' e r h m f k era q =
     unmoved j t t' job after turns turns' (ap (λ (z : Notes). z.era) m.3) (era_event t e r t' h (λ c. c)) f k era q
 
@@ -274,17 +274,14 @@ right_runs bound past (s ∷ ss) t last js ends r lt k d j l =
 -- what is told so was asked in another era than that of the tables
 asked_era : (t t' : Tables) (job after : Job) (deed : Option Deed) (told : ActReply) → TablesGo t deed told t' →
     MovesIf job deed told after → TellsOvertaken deed told → (era : ℕ) × (job.notes.era ≡ Some era) × (era ≢ t.era)
-asked_era t t' job after (Some (Changes (change.Claim era handle ids))) (Event (event.Refused Overtaken)) g m o =
-    (era, m.1.1, (cases t t' (change.Claim era handle ids) (event.Refused Overtaken) g).2)
-asked_era t t' job after (Some (Changes (change.Insert era number form ids mode)))
-    (Event (event.Refused Overtaken)) g m o =
-    (era, m.1.0, (cases t t' (change.Insert era number form ids mode) (event.Refused Overtaken) g).2)
-asked_era t t' job after (Some (Changes (change.InsertRoot era form ids mode negotiated)))
-    (Event (event.Refused Overtaken)) g m o =
-    (era, m.1.0, (cases t t' (change.InsertRoot era form ids mode negotiated) (event.Refused Overtaken) g).2)
-asked_era t t' job after (Some (Changes (change.InsertHandle era handle number fd)))
-    (Event (event.Refused Overtaken)) g m o =
-    (era, m.1.0, (cases t t' (change.InsertHandle era handle number fd) (event.Refused Overtaken) g).2)
+asked_era t t' job after (Some (Changes (change.Claim claim))) (Event (event.Refused Overtaken)) g m o =
+    (claim.era, m.1.1, (cases t t' (change.Claim claim) (event.Refused Overtaken) g).2)
+asked_era t t' job after (Some (Changes (change.Insert new))) (Event (event.Refused Overtaken)) g m o =
+    (new.era, m.1.0, (cases t t' (change.Insert new) (event.Refused Overtaken) g).2)
+asked_era t t' job after (Some (Changes (change.InsertRoot new))) (Event (event.Refused Overtaken)) g m o =
+    (new.era, m.1.0, (cases t t' (change.InsertRoot new) (event.Refused Overtaken) g).2)
+asked_era t t' job after (Some (Changes (change.InsertHandle new))) (Event (event.Refused Overtaken)) g m o =
+    (new.era, m.1.0, (cases t t' (change.InsertHandle new) (event.Refused Overtaken) g).2)
 asked_era t t' job after deed told g m o = absurd o
 
 pub overtaken_law : (limit bound : ℕ) (turns : List Turn) (turn : Turn) (more : List Turn) (now next : Tables) →
@@ -308,19 +305,19 @@ noted_event : (job after : Job) (e : Change) (told : ActReply) (era : ℕ) → M
     job.notes.era ≡ Some era → after.notes.era ≡ Some era
 noted_event job after change.Begin (Event (event.Began was negotiated)) era m q = absurd (let x = m.1 in cc)
 noted_event job after change.Clear (Event (event.Cleared was closings)) era m q = absurd (let x = m.1 in cc)
-noted_event job after (change.Resolve number) (Event (event.Resolved serial form ids mode)) era m q =
+noted_event job after (change.Resolve number) (Event (event.Resolved resolved)) era m q =
     ap (λ (z : Notes). z.era) m.3 ∙ q
 noted_event job after change.DrawNode (Event (event.Drawn number)) era m q = ap (λ (z : Notes). z.era) m.3 ∙ q
 noted_event job after change.DrawHandle (Event (event.Drawn number)) era m q = ap (λ (z : Notes). z.era) m.3 ∙ q
-noted_event job after (change.Insert own number form ids mode) (Event (event.Inserted given)) era m q =
+noted_event job after (change.Insert new) (Event (event.Inserted given)) era m q =
     ap (λ (z : Notes). z.era) m.3 ∙ q
-noted_event job after (change.InsertRoot own form ids mode negotiated) (Event (event.Inserted given)) era m q =
+noted_event job after (change.InsertRoot new) (Event (event.Inserted given)) era m q =
     ap (λ (z : Notes). z.era) m.3 ∙ q
-noted_event job after (change.InsertHandle own handle number fd) (Event (event.Inserted given)) era m q =
+noted_event job after (change.InsertHandle new) (Event (event.Inserted given)) era m q =
     ap (λ (z : Notes). z.era) m.3 ∙ q
-noted_event job after (change.Insert own number form ids mode) (Event (event.Found given)) era m q =
+noted_event job after (change.Insert new) (Event (event.Found given)) era m q =
     ap (λ (z : Notes). z.era) m.3 ∙ q
-noted_event job after (change.Claim own handle ids) (Event (event.Claimed given)) era m q =
+noted_event job after (change.Claim claim) (Event (event.Claimed given)) era m q =
     ap (λ (z : Notes). z.era) m.3 ∙ q
 noted_event job after e told era m q = ap (λ (z : Notes). z.era) m.3 ∙ q
 
@@ -351,19 +348,17 @@ begun_era t t' job after deed told b g m = absurd b
 -- what is given is asked for in the era of the tables
 pub given_era : (t t' : Tables) (job after : Job) (deed : Option Deed) (told : ActReply) → TablesGo t deed told t' →
     MovesIf job deed told after → TellsGiven deed told → job.notes.era ≡ Some t.era
-given_era t t' job after (Some (Changes (change.Claim era handle ids))) (Event (event.Claimed number)) g m o =
-    m.1.1 ∙ ap Some (cases t t' (change.Claim era handle ids) (event.Claimed number) g).0
-given_era t t' job after (Some (Changes (change.Insert era number form ids mode))) (Event (event.Inserted given)) g m
+given_era t t' job after (Some (Changes (change.Claim claim))) (Event (event.Claimed given)) g m o =
+    m.1.1 ∙ ap Some (cases t t' (change.Claim claim) (event.Claimed given) g).0
+given_era t t' job after (Some (Changes (change.Insert new))) (Event (event.Inserted given)) g m
     o =
-    m.1.0 ∙ ap Some (cases t t' (change.Insert era number form ids mode) (event.Inserted given) g).0
-given_era t t' job after (Some (Changes (change.Insert era number form ids mode))) (Event (event.Found given)) g m o =
-    m.1.0 ∙ ap Some (cases t t' (change.Insert era number form ids mode) (event.Found given) g).0
-given_era t t' job after (Some (Changes (change.InsertRoot era form ids mode negotiated)))
-    (Event (event.Inserted given)) g m o =
-    m.1.0 ∙ ap Some (cases t t' (change.InsertRoot era form ids mode negotiated) (event.Inserted given) g).0
-given_era t t' job after (Some (Changes (change.InsertHandle era handle number fd)))
-    (Event (event.Inserted given)) g m o =
-    m.1.0 ∙ ap Some (cases t t' (change.InsertHandle era handle number fd) (event.Inserted given) g).0
+    m.1.0 ∙ ap Some (cases t t' (change.Insert new) (event.Inserted given) g).0
+given_era t t' job after (Some (Changes (change.Insert new))) (Event (event.Found given)) g m o =
+    m.1.0 ∙ ap Some (cases t t' (change.Insert new) (event.Found given) g).0
+given_era t t' job after (Some (Changes (change.InsertRoot new))) (Event (event.Inserted given)) g m o =
+    m.1.0 ∙ ap Some (cases t t' (change.InsertRoot new) (event.Inserted given) g).0
+given_era t t' job after (Some (Changes (change.InsertHandle new))) (Event (event.Inserted given)) g m o =
+    m.1.0 ∙ ap Some (cases t t' (change.InsertHandle new) (event.Inserted given) g).0
 given_era t t' job after deed told g m o = absurd o
 
 cleared_later : (t t' : Tables) (step : Step) (era closings : ℕ) →

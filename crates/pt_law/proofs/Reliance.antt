@@ -45,25 +45,20 @@ not_live_twice n number given t l free g e =
 settled_number : (past : Past) (t t' : Tables) (j : ℕ) (deed : Option Deed) (told : ActReply) (tree : Tree) (n : ℕ) →
     IsLive t n → TablesGo t deed told t' → (settled_if past j deed told t.next_row tree).numbers n ≡ past.numbers n
 settled_number past t t' j None told tree n l g = refl
-settled_number past t t' j (Some (Changes (change.Insert era number form ids mode)))
-    (Event (event.Inserted given)) tree n l g =
-    let case = cases t t' (change.Insert era number form ids mode) (event.Inserted given) g in
-    set_at_other past.numbers given (past.latest j) n (not_live_twice n number given t l case.1.1 case.3)
-settled_number past t t' j (Some (Changes (change.InsertRoot era form ids mode agreed)))
-    (Event (event.Inserted given)) tree n l g =
-    let case = cases t t' (change.InsertRoot era form ids mode agreed) (event.Inserted given) g in
+settled_number past t t' j (Some (Changes (change.Insert new))) (Event (event.Inserted given)) tree n l g =
+    let case = cases t t' (change.Insert new) (event.Inserted given) g in
+    set_at_other past.numbers given (past.latest j) n (not_live_twice n new.number given t l case.1.1 case.3)
+settled_number past t t' j (Some (Changes (change.InsertRoot new))) (Event (event.Inserted given)) tree n l g =
+    let case = cases t t' (change.InsertRoot new) (event.Inserted given) g in
     set_at_other past.numbers given (past.roots j) n (not_live_twice n 1 given t l case.1.1 case.3)
-settled_number past t t' j (Some (Changes (change.InsertHandle era handle number fd)))
-    (Event (event.Inserted given)) tree n l g = refl
+settled_number past t t' j (Some (Changes (change.InsertHandle new))) (Event (event.Inserted given)) tree n l g = refl
 settled_number past t t' j (Some (Changes (change.Resolve number)))
-    (Event (event.Resolved serial form ids mode)) tree n l g = refl
+    (Event (event.Resolved resolved)) tree n l g = refl
 settled_number past t t' j (Some (Calls (call.OpenAt dir name flags mode)))
     (Host (host.Ok (value.Fd fd))) tree n l g = refl
 settled_number past t t' j (Some (Calls (call.OpenRoot place flags))) (Host (host.Ok (value.Fd fd))) tree n l g = refl
-settled_number past t t' j (Some (Changes (change.Insert era number form ids mode)))
-    (Event (event.Found given)) tree n l g = refl
-settled_number past t t' j (Some (Changes (change.Claim era handle ids))) (Event (event.Claimed given)) tree n l g =
-    refl
+settled_number past t t' j (Some (Changes (change.Insert new))) (Event (event.Found given)) tree n l g = refl
+settled_number past t t' j (Some (Changes (change.Claim claim))) (Event (event.Claimed given)) tree n l g = refl
 settled_number past t t' j (Some _) _ tree n l g = refl
 
 pub object_stays : (turns : List Turn) (start now : World) (number object : ℕ) → StaysLive start turns number →
@@ -143,15 +138,15 @@ handles_stay_law before after list closings h =
 -- a number that is not live comes by an insertion alone
 comes_case : (n : ℕ) (t : Tables) (e : Change) (r : EventReply) (t' : Tables) → NoRow t (HasNumber n) →
     Case t e r t' → given_by n 0 (Changes e) (Event r) ≤ 2 * inserted_as n (Changes e) (Event r)
-comes_case n t (change.InsertRoot era form ids mode negotiated) (event.Inserted given) t' z h = omega arith
-comes_case n t (change.Insert era number form ids mode) (event.Inserted given) t' z h = omega arith
-comes_case n t (change.Insert era number form ids mode) (event.Found given) t' z h =
+comes_case n t (change.InsertRoot new) (event.Inserted given) t' z h = omega arith
+comes_case n t (change.Insert new) (event.Inserted given) t' z h = omega arith
+comes_case n t (change.Insert new) (event.Found given) t' z h =
     let g = h.1 in
-    let a = is_apart given n (λ e. each_replaced (λ row. HasNumber n row → ⊥) g.4.1 z (g.1.0, g.2 ∙ e)) in
+    let a = is_apart given.number n (λ e. each_replaced (λ row. HasNumber n row → ⊥) g.4.1 z (g.1.0, g.2 ∙ e)) in
     omega (arith, a)
-comes_case n t (change.Claim era handle ids) (event.Claimed given) t' z h =
+comes_case n t (change.Claim claim) (event.Claimed given) t' z h =
     let g = h.1 in
-    let a = is_apart given n (λ e. each_replaced (λ row. HasNumber n row → ⊥) g.4.1 z (g.1.0, g.2 ∙ e)) in
+    let a = is_apart given.number n (λ e. each_replaced (λ row. HasNumber n row → ⊥) g.4.1 z (g.1.0, g.2 ∙ e)) in
     omega (arith, a)
 comes_case n t (change.Forget list) (event.Done closings) t' z h = let a = forgotten_less n 0 list in omega (arith, a)
 comes_case n t (change.GiveBack era given) (event.Done closings) t' z h = omega arith

@@ -3,13 +3,12 @@ use Rattle.std.proofs.Common.{◌≡◌, ◌⊎◌, ◌<◌, inl, inr, ℕ, List
 use Rattle.std.proofs.Common.{Some, None, Option, refl, sym, ap, subst, ◌∙◌, append_assoc}
 use Rattle.pt_host.specs.Words.{Each}
 use Rattle.pt_host.specs.Call.{Call}
-use Rattle.pt_host.specs.declared.ids.ObjIds.{ObjIds}
 use Rattle.pt_host.specs.declared.op.KeptHostOp.TheVariants as call
 use Rattle.pt_host.specs.declared.reply.HostReply.TheVariants as host
 use Rattle.pt_host.specs.declared.reply.HostValue.TheVariants as value
 use Rattle.pt_session.specs.declared.event.KeptEvent.TheVariants as change
-use Rattle.pt_session.specs.declared.form.RowForm.{RowForm}
 use Rattle.pt_session.specs.declared.reply.EventReply.TheVariants as event
+use Rattle.pt_session.specs.declared.reply.Resolved.{Resolved}
 use Rattle.pt_frame.specs.Deed.{Deed, Calls, Changes, Step}
 use Rattle.pt_frame.specs.declared.act.ActReply.{ActReply}
 use Rattle.pt_frame.specs.declared.act.ActReply.TheVariants.{Event, Host}
@@ -45,25 +44,21 @@ called_keeps notes asked told = refl
 -- this step resolved it
 abbrev Resolves : Option Deed → ActReply → Resolution → Type 0
 Resolves deed told was =
-    (form : RowForm) × (ids : ObjIds) × (mode : ℕ)
-    × (record { deed = deed; reply = told } ≡ resolving was.number was.row form ids mode)
+    (row : Resolved) × (record { deed = deed; reply = told } ≡ resolving was.number row)
 
 changed_by : (notes : Notes) (deed : Deed) (told : ActReply) (was : Resolution) →
     (notes_after notes deed told).resolved ≡ Some was →
     Resolves (Some deed) told was ⊎ ((notes.resolved ≡ Some was) × ComesToNone (Some deed) told)
 changed_by notes (Calls asked) told was e = inr (sym (called_keeps notes asked told) ∙ e, tt)
-changed_by notes (Changes (change.Resolve number)) (Event (event.Resolved row form ids mode)) was e =
-    let now : Resolution = record { number = number; row = row } in
+changed_by notes (Changes (change.Resolve number)) (Event (event.Resolved resolved)) was e =
+    let now : Resolution = record { number = number; row = resolved.row } in
     let same : now ≡ was = cc in
-    inl (form, ids, mode, ap (λ (r : Resolution). resolving r.number r.row form ids mode) same)
-changed_by notes (Changes (change.Insert era number form ids mode)) (Event (event.Inserted given)) was e =
-    absurd (cc)
-changed_by notes (Changes (change.Insert era number form ids mode)) (Event (event.Found given)) was e = absurd (cc)
-changed_by notes (Changes (change.Claim era handle ids)) (Event (event.Claimed given)) was e = absurd (cc)
-changed_by notes (Changes (change.InsertRoot era form ids mode agreed)) (Event (event.Inserted given)) was e =
-    inr (e, tt)
-changed_by notes (Changes (change.InsertHandle era handle number fd)) (Event (event.Inserted given)) was e =
-    inr (e, tt)
+    inl (resolved, ap (λ (r : Resolution). resolving r.number resolved) same)
+changed_by notes (Changes (change.Insert new)) (Event (event.Inserted given)) was e = absurd (cc)
+changed_by notes (Changes (change.Insert new)) (Event (event.Found given)) was e = absurd (cc)
+changed_by notes (Changes (change.Claim claim)) (Event (event.Claimed given)) was e = absurd (cc)
+changed_by notes (Changes (change.InsertRoot new)) (Event (event.Inserted given)) was e = inr (e, tt)
+changed_by notes (Changes (change.InsertHandle new)) (Event (event.Inserted given)) was e = inr (e, tt)
 changed_by notes (Changes change.Begin) (Event (event.Began era agreed)) was e = inr (e, tt)
 changed_by notes (Changes change.Clear) (Event (event.Cleared era closings)) was e = inr (e, tt)
 changed_by notes (Changes change.DrawNode) (Event (event.Drawn number)) was e = inr (e, tt)
@@ -81,10 +76,8 @@ moved_by (Some deed) told job after was m e =
 record ResolvedLast (steps : List Step) (was : Resolution) : Type 0 where
   before : List Step
   between : List Step
-  form : RowForm
-  ids : ObjIds
-  mode : ℕ
-  are : steps ≡ before ++ resolving was.number was.row form ids mode ∷ between
+  row : Resolved
+  are : steps ≡ before ++ resolving was.number row ∷ between
   came_last : Each (λ (step : Step). ComesToNone step.deed step.reply) between
 
 resolved_last : (job : Job) (steps : List Step) (last : Job) (was : Resolution) → Disciplined job steps last →
@@ -96,9 +89,7 @@ resolved_last job (step ∷ steps) last was d e = elim (resolved_last d.0 steps 
   | inl r ↦ inl (record {
     before = step ∷ r.before;
     between = r.between;
-    form = r.form;
-    ids = r.ids;
-    mode = r.mode;
+    row = r.row;
     are = ap (λ (s : List Step). step ∷ s) r.are;
     came_last = r.came_last;
   })
@@ -106,10 +97,8 @@ resolved_last job (step ∷ steps) last was d e = elim (resolved_last d.0 steps 
     | inl at ↦ inl (record {
       before = [];
       between = steps;
-      form = at.0;
-      ids = at.1;
-      mode = at.2;
-      are = ap (λ (s : Step). s ∷ steps) at.3;
+      row = at.0;
+      are = ap (λ (s : Step). s ∷ steps) at.1;
       came_last = k.1;
     })
     | inr still ↦ inr (still.0, (still.1, k.1))
@@ -151,10 +140,7 @@ reopened_law limit bound turns more start now s a r before job fd new flags e =
     let at = from_start (steps_of job before) cut.0 was cut.1 pins.2 in
     record {
       number = was.number;
-      row = was.row;
-      form = at.form;
-      ids = at.ids;
-      mode = at.mode;
+      row = at.row;
       before = at.before;
       between = at.between;
       resolved = at.are;

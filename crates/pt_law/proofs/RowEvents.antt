@@ -151,39 +151,39 @@ pub handles_event : (tree : Tree) (past : Past) (t : Tables) (j : ℕ) (job afte
     (t' : Tables) → Agree t → Case t e r t' → MovesBy job (Changes e) (Event r) after →
     Knowing tree t.next_row past j job → Each (HandleOpen tree past) t.handles →
     Each (HandleOpen tree (settled_by past j (Changes e) (Event r) t.next_row tree)) t'.handles
-handles_event tree past t j job after (change.Insert era number form ids mode) (event.Inserted given) t' a h m k
+handles_event tree past t j job after (change.Insert new) (event.Inserted given) t' a h m k
     rows =
-    rw h.4 (handles_place tree past (settled past given t.next_row (fd_of form) (past.latest j)) t.next_row
-    (fd_of form) (past.latest j) t.handles refl refl a.sound_handles rows)
-handles_event tree past t j job after (change.InsertRoot era form ids mode negotiated)
+    rw h.4 (handles_place tree past (settled past given t.next_row (fd_of new.form) (past.latest j)) t.next_row
+    (fd_of new.form) (past.latest j) t.handles refl refl a.sound_handles rows)
+handles_event tree past t j job after (change.InsertRoot new)
     (event.Inserted given) t' a h m k rows =
     rw (ap (λ (z : Tables). z.handles) h.4
-    ∙ agreed_handles negotiated (with_row t (new_row t 1 form ids mode 2)))
-    (handles_place tree past (settled past given t.next_row (fd_of form) (past.roots j)) t.next_row (fd_of form)
+    ∙ agreed_handles new.negotiated (with_row t (new_row t 1 new.form new.ids new.mode 2)))
+    (handles_place tree past (settled past given t.next_row (fd_of new.form) (past.roots j)) t.next_row (fd_of new.form)
     (past.roots j) t.handles refl refl a.sound_handles rows)
-handles_event tree past t j job after (change.InsertHandle era handle number fd)
+handles_event tree past t j job after (change.InsertHandle new)
     (event.Inserted given) t' a h m k rows =
     let fit = m.1 in
-    let n = inserted_open tree t.next_row past j job number fd k fit.2 in
+    let n = inserted_open tree t.next_row past j job new.number new.fd k fit.2 in
     rw h.4 (
       record {
         object = n.0;
         open_on = n.1;
-        placed = set_at_same past.objects t.next_row (past.resolved j number) ∙ n.2;
-        kept_by = set_at_same past.fds t.next_row (Some fd);
+        placed = set_at_same past.objects t.next_row (past.resolved j new.number) ∙ n.2;
+        kept_by = set_at_same past.fds t.next_row (Some new.fd);
       },
-      handles_place tree past (with_place past t.next_row fd (past.resolved j number)) t.next_row fd
-          (past.resolved j number) t.handles refl refl a.sound_handles rows,
+      handles_place tree past (with_place past t.next_row new.fd (past.resolved j new.number)) t.next_row new.fd
+          (past.resolved j new.number) t.handles refl refl a.sound_handles rows,
     )
-handles_event tree past t j job after (change.Resolve number) (event.Resolved serial form ids mode) t' a h m k rows =
+handles_event tree past t j job after (change.Resolve number) (event.Resolved resolved) t' a h m k rows =
     handles_kept (HandleOpen tree past) (handle_later tree past)
-    (kept_by t (change.Resolve number) (event.Resolved serial form ids mode) t' tt h) rows
-handles_event tree past t j job after (change.Insert era number form ids mode) (event.Found given) t' a h m k rows =
+    (kept_by t (change.Resolve number) (event.Resolved resolved) t' tt h) rows
+handles_event tree past t j job after (change.Insert new) (event.Found given) t' a h m k rows =
     handles_kept (HandleOpen tree past) (handle_later tree past)
-    (kept_by t (change.Insert era number form ids mode) (event.Found given) t' tt h) rows
-handles_event tree past t j job after (change.Claim era handle ids) (event.Claimed given) t' a h m k rows =
+    (kept_by t (change.Insert new) (event.Found given) t' tt h) rows
+handles_event tree past t j job after (change.Claim claim) (event.Claimed given) t' a h m k rows =
     handles_kept (HandleOpen tree past) (handle_later tree past)
-    (kept_by t (change.Claim era handle ids) (event.Claimed given) t' tt h) rows
+    (kept_by t (change.Claim claim) (event.Claimed given) t' tt h) rows
 handles_event tree past t j job after e r t' a h m k rows =
     handles_kept (HandleOpen tree past) (handle_later tree past) (kept_by t e r t' tt h) rows
 
@@ -191,29 +191,29 @@ pub rows_event : (tree : Tree) (past : Past) (t : Tables) (j : ℕ) (job after :
     (t' : Tables) → Agree t → Case t e r t' → MovesBy job (Changes e) (Event r) after →
     Knowing tree t.next_row past j job → Each (RowOpen tree past) t.rows →
     Each (RowOpen tree (settled_by past j (Changes e) (Event r) t.next_row tree)) t'.rows
-rows_event tree past t j job after (change.Insert era number form ids mode) (event.Inserted given) t' a h m k rows =
+rows_event tree past t j job after (change.Insert new) (event.Inserted given) t' a h m k rows =
     let fit = m.1 in
-    rw h.4 (row_comes tree past t number given form ids mode 1 (past.latest j) a h.3 h.1
-    (told_noted tree (fd_of form) ids (past.latest j) job k.told fit.3 (k.latest (fd_of form) fit.1)) rows)
-rows_event tree past t j job after (change.InsertRoot era form ids mode negotiated)
+    rw h.4 (row_comes tree past t new.number given new.form new.ids new.mode 1 (past.latest j) a h.3 h.1
+    (told_noted tree (fd_of new.form) new.ids (past.latest j) job k.told fit.3 (k.latest (fd_of new.form) fit.1)) rows)
+rows_event tree past t j job after (change.InsertRoot new)
     (event.Inserted given) t' a h m k rows =
     let fit = m.1 in
-    rw h.4 (agreed_rows (RowOpen tree (settled past given t.next_row (fd_of form) (past.roots j))) negotiated
-    (with_row t (new_row t 1 form ids mode 2))
-    (row_comes tree past t 1 given form ids mode 2 (past.roots j) a h.3 h.1
-    (told_noted tree (fd_of form) ids (past.roots j) job k.told fit.2 (k.root (fd_of form) fit.1)) rows))
-rows_event tree past t j job after (change.InsertHandle era handle number fd) (event.Inserted given) t' a h m k rows =
+    rw h.4 (agreed_rows (RowOpen tree (settled past given t.next_row (fd_of new.form) (past.roots j))) new.negotiated
+    (with_row t (new_row t 1 new.form new.ids new.mode 2))
+    (row_comes tree past t 1 given new.form new.ids new.mode 2 (past.roots j) a h.3 h.1
+    (told_noted tree (fd_of new.form) new.ids (past.roots j) job k.told fit.2 (k.root (fd_of new.form) fit.1)) rows))
+rows_event tree past t j job after (change.InsertHandle new) (event.Inserted given) t' a h m k rows =
     rw h.4 (each_both (IsSoundRow t.next_row) (RowOpen tree past)
-    (RowOpen tree (with_place past t.next_row fd (past.resolved j number))) t.rows (λ row s o.
-    row_place tree past t.next_row fd (past.resolved j number) row s o) a.sound rows)
-rows_event tree past t j job after (change.Resolve number) (event.Resolved serial form ids mode) t' a h m k rows =
+    (RowOpen tree (with_place past t.next_row new.fd (past.resolved j new.number))) t.rows (λ row s o.
+    row_place tree past t.next_row new.fd (past.resolved j new.number) row s o) a.sound rows)
+rows_event tree past t j job after (change.Resolve number) (event.Resolved resolved) t' a h m k rows =
     rows_kept (RowOpen tree past) (row_later tree past)
-    (kept_by t (change.Resolve number) (event.Resolved serial form ids mode) t' tt h) rows
-rows_event tree past t j job after (change.Insert era number form ids mode) (event.Found given) t' a h m k rows =
+    (kept_by t (change.Resolve number) (event.Resolved resolved) t' tt h) rows
+rows_event tree past t j job after (change.Insert new) (event.Found given) t' a h m k rows =
     rows_kept (RowOpen tree past) (row_later tree past)
-    (kept_by t (change.Insert era number form ids mode) (event.Found given) t' tt h) rows
-rows_event tree past t j job after (change.Claim era handle ids) (event.Claimed given) t' a h m k rows =
+    (kept_by t (change.Insert new) (event.Found given) t' tt h) rows
+rows_event tree past t j job after (change.Claim claim) (event.Claimed given) t' a h m k rows =
     rows_kept (RowOpen tree past) (row_later tree past)
-    (kept_by t (change.Claim era handle ids) (event.Claimed given) t' tt h) rows
+    (kept_by t (change.Claim claim) (event.Claimed given) t' tt h) rows
 rows_event tree past t j job after e r t' a h m k rows =
     rows_kept (RowOpen tree past) (row_later tree past) (kept_by t e r t' tt h) rows

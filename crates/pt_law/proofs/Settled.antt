@@ -38,23 +38,23 @@ pub one_given : (e n : ℕ) (deed : Deed) (told : ActReply) (holds after : List 
 one_given e n (Calls asked) told holds after s =
     let k = others_called (count_of e n) (λ fd. refl) (sort_of asked) (fds_of asked) told holds after s in
     omega (arith, k)
-one_given e n (Changes (change.Resolve number)) (Event (event.Resolved row form ids mode)) holds after s =
+one_given e n (Changes (change.Resolve number)) (Event (event.Resolved resolved)) holds after s =
     let k = total_takes (count_of e n) s in omega (arith, k)
 one_given e n (Changes (change.Unpin row)) told holds after s = let k = total_takes (count_of e n) s.1 in
     omega (arith, k)
-one_given e n (Changes (change.Claim era handle ids)) (Event (event.Claimed number)) holds after s =
+one_given e n (Changes (change.Claim claim)) (Event (event.Claimed given)) holds after s =
     let k = total_takes (count_of e n) s in omega (arith, k)
 one_given e n (Changes change.TakeFd) (Event event.Taken) holds after s = let k = total_takes (count_of e n) s in
     omega (arith, k)
 one_given e n (Changes change.GiveFd) told holds after s = let k = total_takes (count_of e n) s in omega (arith, k)
-one_given e n (Changes (change.Insert era number form ids mode)) (Event (event.Inserted given)) holds after s =
+one_given e n (Changes (change.Insert new)) (Event (event.Inserted given)) holds after s =
     let a = total_takes (count_of e n) s.2 in
     let b = total_takes (count_of e n) s.3 in
     let c = total_takes (count_of e n) s.4 in
     omega (arith, a, b, c)
-one_given e n (Changes (change.Insert era number form ids mode)) (Event (event.Found given)) holds after s =
+one_given e n (Changes (change.Insert new)) (Event (event.Found given)) holds after s =
     let k = total_takes (count_of e n) s in omega (arith, k)
-one_given e n (Changes (change.InsertRoot era form ids mode agreed)) (Event (event.Inserted given)) holds after s =
+one_given e n (Changes (change.InsertRoot new)) (Event (event.Inserted given)) holds after s =
     let a = total_takes (count_of e n) s.1 in
     let b = total_takes (count_of e n) s.2 in
     omega (arith, a, b)
@@ -64,7 +64,7 @@ one_given e n (Changes (change.PinHandle handle number)) (Event (event.Pinned ro
     let k = total_takes (count_of e n) s in omega (arith, k)
 one_given e n (Changes (change.UnpinHandle row)) told holds after s = let k = total_takes (count_of e n) s.1 in
     omega (arith, k)
-one_given e n (Changes (change.InsertHandle era handle number fd)) (Event (event.Inserted given)) holds after s =
+one_given e n (Changes (change.InsertHandle new)) (Event (event.Inserted given)) holds after s =
     let a = total_takes (count_of e n) s.1 in
     let b = total_takes (count_of e n) s.2 in
     omega (arith, a, b)

@@ -112,24 +112,24 @@ no_live n (row ∷ rows) h =
 stands_by : (n : ℕ) (t : Tables) (e : Change) (r : EventReply) (after : Tables) → Case t e r after →
     live_handles n after ≡ standing_by n (live_handles n t) (Asks e) (Event r)
 stands_by n t change.Begin (event.Began era negotiated) after h = ap (live_handles n) h.2
-stands_by n t (change.Resolve number) (event.Resolved serial form ids mode) after h = ap (live_handles n) h.7.2
+stands_by n t (change.Resolve number) (event.Resolved resolved) after h = ap (live_handles n) h.7.2
 stands_by n t (change.Unpin serial) (event.Done closings) after h =
     unpins (live_handles n) (no_numbers n) t serial closings after h
-stands_by n t (change.Claim era handle ids) (event.Claimed number) after h = ap (live_handles n) h.1.4.2
-stands_by n t (change.Claim era handle ids) event.Absent after h = ap (live_handles n) h.2
+stands_by n t (change.Claim claim) (event.Claimed given) after h = ap (live_handles n) h.1.4.2
+stands_by n t (change.Claim claim) event.Absent after h = ap (live_handles n) h.2
 stands_by n t change.TakeFd event.Taken after h = ap (live_handles n) h.2
 stands_by n t change.GiveFd event.Given after h = ap (live_handles n) h.1
 stands_by n t change.DrawNode (event.Drawn number) after h = ap (live_handles n) h.2
-stands_by n t (change.Insert era number form ids mode) (event.Inserted given) after h = ap (live_handles n) h.4
-stands_by n t (change.Insert era number form ids mode) (event.Found given) after h = ap (live_handles n) h.1.4.2
-stands_by n t (change.InsertRoot era form ids mode negotiated) (event.Inserted given) after h =
-    ap (live_handles n) h.4 ∙ said n negotiated (with_row t (new_row t 1 form ids mode 2))
+stands_by n t (change.Insert new) (event.Inserted given) after h = ap (live_handles n) h.4
+stands_by n t (change.Insert new) (event.Found given) after h = ap (live_handles n) h.1.4.2
+stands_by n t (change.InsertRoot new) (event.Inserted given) after h =
+    ap (live_handles n) h.4 ∙ said n new.negotiated (with_row t (new_row t 1 new.form new.ids new.mode 2))
 stands_by n t (change.Forget list) (event.Done closings) after h =
     forgets_all (live_handles n) (no_numbers n) t list closings after h
 stands_by n t (change.GiveBack era number) (event.Done closings) after h =
     forgets_one (live_handles n) (no_numbers n) t number 1 closings after h.2
 stands_by n t change.DrawHandle (event.Drawn handle) after h = ap (live_handles n) h.2
-stands_by n t (change.InsertHandle era handle number fd) (event.Inserted given) after h =
+stands_by n t (change.InsertHandle new) (event.Inserted given) after h =
     rw h.4 (let e = ap (λ i. is i n) h.3 in omega (arith, e))
 stands_by n t (change.PinHandle handle number) (event.Pinned serial fd) after h = let k = h.5 in
     rw k.2 (let a = total_replaces (handle_in n) k.1 in omega (arith, a))
@@ -138,7 +138,7 @@ stands_by n t (change.Release handle number) (event.Done closings) after h =
     releases n handle t h.0 closings after h.1.0 h.1.1 h.2
 stands_by n t change.Clear (event.Cleared era closings) after h =
     no_live n after.handles (clears t after closings h.1).handles
-stands_by n t change.TakeClosing (event.Closing fd slot) after h = ap (live_handles n) h.2
+stands_by n t change.TakeClosing (event.Closing first) after h = ap (live_handles n) h.2
 stands_by n t e (event.Refused why) after h = ap (live_handles n) h.1
 stands_by n t _ _ after h = absurd h
 

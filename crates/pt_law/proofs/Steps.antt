@@ -105,14 +105,14 @@ flows_by : (t : Tables) (e : Change) (r : EventReply) (t' : Tables) → Case t e
 flows_by t change.TakeFd event.Taken t' h a = (refl, refl)
 flows_by t change.GiveFd event.Given t' h a = (refl, refl)
 flows_by t change.GiveFd (event.Refused why) t' h a = absurd a
-flows_by t (change.Insert era number form ids mode) (event.Inserted given) t' h a = (refl, refl)
-flows_by t (change.InsertRoot era form ids mode negotiated) (event.Inserted given) t' h a = (refl, refl)
-flows_by t (change.InsertHandle era handle number fd) (event.Inserted given) t' h a = (refl, refl)
-flows_by t change.TakeClosing (event.Closing fd slot) t' h a = (refl, refl)
+flows_by t (change.Insert new) (event.Inserted given) t' h a = (refl, refl)
+flows_by t (change.InsertRoot new) (event.Inserted given) t' h a = (refl, refl)
+flows_by t (change.InsertHandle new) (event.Inserted given) t' h a = (refl, refl)
+flows_by t change.TakeClosing (event.Closing first) t' h a = (refl, refl)
 flows_by t change.GiveFd _ t' h a = absurd h
 flows_by t _ event.Taken t' h a = absurd h
 flows_by t _ event.Given t' h a = absurd h
-flows_by t _ (event.Closing fd slot) t' h a = absurd h
+flows_by t _ (event.Closing first) t' h a = absurd h
 flows_by t _ _ t' h a = (refl, refl)
 
 event_flows : (t : Tables) (e : Change) (r : EventReply) (t' : Tables) → Happens t e r t' →

@@ -6,13 +6,13 @@ use Rattle.pt_host.specs.Words.{Each}
 use Rattle.pt_host.specs.Flags.{includes, o_path}
 use Rattle.pt_host.specs.Tree.{Tree, Opened}
 use Rattle.pt_host.specs.declared.ids.Fd.{Fd}
-use Rattle.pt_host.specs.declared.ids.ObjIds.{ObjIds}
 use Rattle.pt_host.specs.declared.flags.OpenFlags.{OpenFlags}
 use Rattle.pt_host.specs.declared.op.KeptHostOp.TheVariants as call
 use Rattle.pt_host.specs.declared.reply.HostReply.TheVariants as host
 use Rattle.pt_host.specs.declared.reply.HostValue.TheVariants as value
-use Rattle.pt_session.specs.declared.form.Negotiated.{Negotiated}
-use Rattle.pt_session.specs.declared.form.RowForm.{RowForm}
+use Rattle.pt_session.specs.declared.event.NewRow.{NewRow}
+use Rattle.pt_session.specs.declared.event.NewRoot.{NewRoot}
+use Rattle.pt_session.specs.declared.reply.Resolved.{Resolved}
 use Rattle.pt_session.specs.declared.event.KeptEvent.TheVariants as change
 use Rattle.pt_session.specs.declared.reply.EventReply.TheVariants as event
 use Rattle.pt_frame.specs.Deed.{Deed, Calls, Changes, Step}
@@ -130,13 +130,11 @@ sort_opening (Some (Calls (call.OpenAt dir name flags mode))) (Host (host.Ok (va
 sort_opening _ _ = inr tt
 
 abbrev IsResolving : Step → Type 0
-IsResolving step = (number : ℕ) × (row : ℕ) × (form : RowForm) × (ids : ObjIds) × (mode : ℕ)
-    × (step ≡ resolving number row form ids mode)
+IsResolving step = (number : ℕ) × (row : Resolved) × (step ≡ resolving number row)
 
 sort_resolving : (deed : Option Deed) (told : ActReply) →
     IsResolving (record { deed = deed; reply = told }) ⊎ ResolvesNone deed told
-sort_resolving (Some (Changes (change.Resolve number))) (Event (event.Resolved row form ids mode)) =
-    inl (number, row, form, ids, mode, refl)
+sort_resolving (Some (Changes (change.Resolve number))) (Event (event.Resolved resolved)) = inl (number, resolved, refl)
 sort_resolving _ _ = inr tt
 
 latest_still : (j : ℕ) (turns : List Turn) (w last : World) → Runs w turns last →
@@ -166,17 +164,13 @@ settled_roots past j i (Some (Calls (call.OpenRoot path flags))) (Host (host.Ok 
     absurd q
 settled_roots past j i (Some (Calls (call.OpenAt dir name flags mode))) (Host (host.Ok (value.Fd fd))) next tree q =
     refl
-settled_roots past j i (Some (Changes (change.Insert era number form ids mode)))
-    (Event (event.Inserted given)) next tree q = refl
-settled_roots past j i (Some (Changes (change.InsertRoot era form ids mode agreed)))
-    (Event (event.Inserted given)) next tree q = refl
-settled_roots past j i (Some (Changes (change.InsertHandle era handle number fd)))
-    (Event (event.Inserted given)) next tree q = refl
+settled_roots past j i (Some (Changes (change.Insert new))) (Event (event.Inserted given)) next tree q = refl
+settled_roots past j i (Some (Changes (change.InsertRoot new))) (Event (event.Inserted given)) next tree q = refl
+settled_roots past j i (Some (Changes (change.InsertHandle new))) (Event (event.Inserted given)) next tree q = refl
 settled_roots past j i (Some (Changes (change.Resolve number)))
-    (Event (event.Resolved serial form ids mode)) next tree q = refl
-settled_roots past j i (Some (Changes (change.Insert era number form ids mode)))
-    (Event (event.Found given)) next tree q = refl
-settled_roots past j i (Some (Changes (change.Claim era handle ids))) (Event (event.Claimed given)) next tree q = refl
+    (Event (event.Resolved resolved)) next tree q = refl
+settled_roots past j i (Some (Changes (change.Insert new))) (Event (event.Found given)) next tree q = refl
+settled_roots past j i (Some (Changes (change.Claim claim))) (Event (event.Claimed given)) next tree q = refl
 settled_roots past j i None told next tree q = refl
 settled_roots past j i (Some _) _ next tree q = refl
 
@@ -213,70 +207,50 @@ roots_kept j o (s ∷ ss) w last r e =
 
 -- insertions of a number
 
-abbrev inserting : ℕ → ℕ → ℕ → RowForm → ObjIds → ℕ → Step
-inserting given era number form ids mode =
-    made (Changes (change.Insert era number form ids mode)) (Event (event.Inserted given))
+abbrev inserting : ℕ → NewRow → Step
+inserting given new = made (Changes (change.Insert new)) (Event (event.Inserted given))
 
-abbrev inserting_root : ℕ → ℕ → RowForm → ObjIds → ℕ → Option Negotiated → Step
-inserting_root given era form ids mode agreed =
-    made (Changes (change.InsertRoot era form ids mode agreed)) (Event (event.Inserted given))
+abbrev inserting_root : ℕ → NewRoot → Step
+inserting_root given new = made (Changes (change.InsertRoot new)) (Event (event.Inserted given))
 
 abbrev IsInsertion : ℕ → Step → Type 0
-IsInsertion n step = (era : ℕ) × (number : ℕ) × (form : RowForm) × (ids : ObjIds) × (mode : ℕ)
-    × (step ≡ inserting n era number form ids mode)
+IsInsertion n step = (new : NewRow) × (step ≡ inserting n new)
 
 abbrev IsRootInsertion : ℕ → Step → Type 0
-IsRootInsertion n step = (era : ℕ) × (form : RowForm) × (ids : ObjIds) × (mode : ℕ) × (agreed : Option Negotiated)
-    × (step ≡ inserting_root n era form ids mode agreed)
+IsRootInsertion n step = (new : NewRoot) × (step ≡ inserting_root n new)
 
 abbrev InsertsNot : ℕ → Option Deed → ActReply → Type 0
-InsertsNot n (Some (Changes (change.Insert era number form ids mode))) (Event (event.Inserted given)) = n ≢ given
-InsertsNot n (Some (Changes (change.InsertRoot era form ids mode agreed))) (Event (event.Inserted given)) = n ≢ given
+InsertsNot n (Some (Changes (change.Insert new))) (Event (event.Inserted given)) = n ≢ given
+InsertsNot n (Some (Changes (change.InsertRoot new))) (Event (event.Inserted given)) = n ≢ given
 InsertsNot n deed told = Unit {0}
 
 sort_insertion : (n : ℕ) (deed : Option Deed) (told : ActReply) →
     (IsInsertion n (record { deed = deed; reply = told }) ⊎ IsRootInsertion n (record { deed = deed; reply = told }))
     ⊎ InsertsNot n deed told
-sort_insertion n (Some (Changes (change.Insert era number form ids mode))) (Event (event.Inserted given)) = ⊎_elim
-    (λ (e : n ≡ given). inl (inl (
-      era,
-      number,
-      form,
-      ids,
-      mode,
-      ap (λ z. inserting z era number form ids mode) (sym e),
-    )))
+sort_insertion n (Some (Changes (change.Insert new))) (Event (event.Inserted given)) = ⊎_elim
+    (λ (e : n ≡ given). inl (inl (new, ap (λ z. inserting z new) (sym e))))
     (λ (e : n ≢ given). inr e)
     (cases_eq n given)
-sort_insertion n (Some (Changes (change.InsertRoot era form ids mode agreed))) (Event (event.Inserted given)) = ⊎_elim
-    (λ (e : n ≡ given). inl (inr (
-      era,
-      form,
-      ids,
-      mode,
-      agreed,
-      ap (λ z. inserting_root z era form ids mode agreed) (sym e),
-    )))
+sort_insertion n (Some (Changes (change.InsertRoot new))) (Event (event.Inserted given)) = ⊎_elim
+    (λ (e : n ≡ given). inl (inr (new, ap (λ z. inserting_root z new) (sym e))))
     (λ (e : n ≢ given). inr e)
     (cases_eq n given)
 sort_insertion n _ _ = inr tt
 
 settled_kept : (past : Past) (j n : ℕ) (deed : Option Deed) (told : ActReply) (next : ℕ) (tree : Tree) →
     InsertsNot n deed told → (settled_if past j deed told next tree).numbers n ≡ past.numbers n
-settled_kept past j n (Some (Changes (change.Insert era number form ids mode)))
+settled_kept past j n (Some (Changes (change.Insert new)))
     (Event (event.Inserted given)) next tree q = set_at_other past.numbers given (past.latest j) n q
-settled_kept past j n (Some (Changes (change.InsertRoot era form ids mode agreed)))
+settled_kept past j n (Some (Changes (change.InsertRoot new)))
     (Event (event.Inserted given)) next tree q = set_at_other past.numbers given (past.roots j) n q
 settled_kept past j n (Some (Calls (call.OpenRoot path flags))) (Host (host.Ok (value.Fd fd))) next tree q = refl
 settled_kept past j n (Some (Calls (call.OpenAt dir name flags mode))) (Host (host.Ok (value.Fd fd))) next tree q =
     refl
-settled_kept past j n (Some (Changes (change.InsertHandle era handle number fd)))
-    (Event (event.Inserted given)) next tree q = refl
+settled_kept past j n (Some (Changes (change.InsertHandle new))) (Event (event.Inserted given)) next tree q = refl
 settled_kept past j n (Some (Changes (change.Resolve number)))
-    (Event (event.Resolved serial form ids mode)) next tree q = refl
-settled_kept past j n (Some (Changes (change.Insert era number form ids mode)))
-    (Event (event.Found given)) next tree q = refl
-settled_kept past j n (Some (Changes (change.Claim era handle ids))) (Event (event.Claimed given)) next tree q = refl
+    (Event (event.Resolved resolved)) next tree q = refl
+settled_kept past j n (Some (Changes (change.Insert new))) (Event (event.Found given)) next tree q = refl
+settled_kept past j n (Some (Changes (change.Claim claim))) (Event (event.Claimed given)) next tree q = refl
 settled_kept past j n None told next tree q = refl
 settled_kept past j n (Some _) _ next tree q = refl
 
@@ -303,19 +277,19 @@ no_number : (limit : ℕ) (start : World) (n : ℕ) → Starts limit start → s
 no_number limit start n s = ap (λ (p : Past). p.numbers n) s.past
 
 -- what the number stands for is what its job had opened last
-inserted_latest : (n j era number mode : ℕ) (form : RowForm) (ids : ObjIds) (back : List Turn) (w w' now : World) →
-    Goes w (turn_by j (inserting n era number form ids mode)) w' → Runs w' back now →
+inserted_latest : (n j : ℕ) (new : NewRow) (back : List Turn) (w w' now : World) →
+    Goes w (turn_by j (inserting n new)) w' → Runs w' back now →
     Each (λ (turn : Turn). InsertsNot n turn.step.deed turn.step.reply) back →
     now.past.numbers n ≡ w.past.latest j
-inserted_latest n j era number mode form ids back w w' now g r q =
+inserted_latest n j new back w w' now g r q =
     numbers_kept n back w' now r q ∙ ap (λ (p : Past). p.numbers n) g.past
     ∙ set_at_same w.past.numbers n (w.past.latest j)
 
-inserted_root : (n j era mode : ℕ) (form : RowForm) (ids : ObjIds) (agreed : Option Negotiated) (back : List Turn)
-    (w w' now : World) → Goes w (turn_by j (inserting_root n era form ids mode agreed)) w' → Runs w' back now →
+inserted_root : (n j : ℕ) (new : NewRoot) (back : List Turn) (w w' now : World) →
+    Goes w (turn_by j (inserting_root n new)) w' → Runs w' back now →
     Each (λ (turn : Turn). InsertsNot n turn.step.deed turn.step.reply) back →
     now.past.numbers n ≡ w.past.roots j
-inserted_root n j era mode form ids agreed back w w' now g r q =
+inserted_root n j new back w w' now g r q =
     numbers_kept n back w' now r q ∙ ap (λ (p : Past). p.numbers n) g.past
     ∙ set_at_same w.past.numbers n (w.past.roots j)
 
@@ -335,22 +309,22 @@ resolved_before bound turns more j mode dir name flags fd d = ⊎_elim
     (last_of (Does j IsResolving) (Spares j ResolvesNone) (sorted j IsResolving ResolvesNone sort_resolving) turns)
 
 named_origin : (limit bound : ℕ) (turns front back more : List Turn) (start now : World)
-    (n j o era number mode : ℕ) (form : RowForm) (ids : ObjIds) → Starts limit start →
-    AreDisciplined bound (turns ++ more) → turns ≡ front ++ turn_by j (inserting n era number form ids mode) ∷ back →
+    (n j o : ℕ) (new : NewRow) → Starts limit start → AreDisciplined bound (turns ++ more) →
+    turns ≡ front ++ turn_by j (inserting n new) ∷ back →
     Runs start turns now → Each (λ (turn : Turn). InsertsNot n turn.step.deed turn.step.reply) back →
     ObjectOf now n o → WasNamed start turns now o
-named_origin limit bound turns front back more start now n j o era number mode form ids s d e r q has = ⊎_elim
+named_origin limit bound turns front back more start now n j o new s d e r q has = ⊎_elim
     (λ (l : LastOf (Does j IsOpening) (Spares j OpensNone) front). found l)
     (λ (none : Each (Spares j OpensNone) front).
     let cut = runs_split front (t ∷ back) start now (subst (λ z. Runs start z now) e r) in
-    let x = inserted_latest n j era number mode form ids back cut.0 cut.2.0 now cut.2.1 cut.2.2 q in
+    let x = inserted_latest n j new back cut.0 cut.2.0 now cut.2.1 cut.2.2 q in
     let y = latest_still j front start cut.0 cut.1 none in
     let z = no_latest limit start j s in
     absurd (none_some (sym z ∙ sym y ∙ sym x ∙ has)))
     (last_of (Does j IsOpening) (Spares j OpensNone) (sorted j IsOpening OpensNone sort_opening) front)
   where
     t : Turn
-    t = turn_by j (inserting n era number form ids mode)
+    t = turn_by j (inserting n new)
 
     found : LastOf (Does j IsOpening) (Spares j OpensNone) front → WasNamed start turns now o
     found l =
@@ -366,20 +340,17 @@ named_origin limit bound turns front back more start now n j o era number mode f
         let move = next_move t (back ++ more) w.0 w.1.1 w.1.2 in
         let free = opened_free (steps_of j l.front) (steps_of j l.back) p.0 p.1 p.2 p.3 p.4 w.0
         (own_spare j OpensNone l.back l.none) (subst (λ z. Disciplined idle z w.0) (ap (steps_of j) front_is
-        ∙ own_to j l.front l.back (opening p.0 p.1 p.2 p.3 p.4)) w.1.0) (fd_of form) move.1.1.1 in
+        ∙ own_to j l.front l.back (opening p.0 p.1 p.2 p.3 p.4)) w.1.0) (fd_of new.form) move.1.1.1 in
         let m = resolved_before bound l.front ((l.back ++ t ∷ back) ++ more) j p.3 p.0 p.1 p.2 p.4
         (subst (AreDisciplined bound) (and_more turns more l.front (l.back ++ t ∷ back) b cut_b) d) in
         let k = m.is.1 in
-        let a = turn_by j (resolving k.0 k.1 k.2 k.3 k.4) in
-        let a_is : m.one ≡ a = m.is.2 ∙ ap (turn_by j) k.5 in
+        let a = turn_by j (resolving k.0 k.1) in
+        let a_is : m.one ≡ a = m.is.2 ∙ ap (turn_by j) k.2 in
         let places : NamePlaces turns j k.0 p.1 = record {
           before = m.front;
           between = m.back;
           later = l.back ++ t ∷ back;
-          row = k.1;
-          form = k.2;
-          ids = k.3;
-          mode = k.4;
+          resolved = k.1;
           dir = p.0;
           flags = p.2;
           made_mode = p.3;
@@ -395,29 +366,28 @@ named_origin limit bound turns front back more start now n j o era number mode f
           (λ opened path to_now.
               let led = led_law limit bound turns more start opened places s d free path in
               let cut = runs_split l.back (t ∷ back) opened now to_now in
-              let x = inserted_latest n j era number mode form ids back cut.0 cut.2.0 now cut.2.1 cut.2.2 q in
+              let x = inserted_latest n j new back cut.0 cut.2.0 now cut.2.1 cut.2.2 q in
               let y = latest_still j l.back opened cut.0 cut.1 l.none in
               let same : led.0 ≡ o = some_same (sym led.2 ∙ sym y ∙ sym x ∙ has) in
               subst (LedTo path) same led.1),
         )
 
-root_origin : (limit : ℕ) (turns front back : List Turn) (start now : World) (n j o era mode : ℕ) (form : RowForm)
-    (ids : ObjIds) (agreed : Option Negotiated) → Starts limit start →
-    turns ≡ front ++ turn_by j (inserting_root n era form ids mode agreed) ∷ back → Runs start turns now →
+root_origin : (limit : ℕ) (turns front back : List Turn) (start now : World) (n j o : ℕ) (new : NewRoot) →
+    Starts limit start → turns ≡ front ++ turn_by j (inserting_root n new) ∷ back → Runs start turns now →
     Each (λ (turn : Turn). InsertsNot n turn.step.deed turn.step.reply) back → ObjectOf now n o →
     WasRoot start turns now o
-root_origin limit turns front back start now n j o era mode form ids agreed s e r q has = ⊎_elim
+root_origin limit turns front back start now n j o new s e r q has = ⊎_elim
     (λ (l : FirstOf (Does j IsRootOpening) (Spares j RootsNone) front). found l)
     (λ (none : Each (Spares j RootsNone) front).
     let cut = runs_split front (t ∷ back) start now (subst (λ z. Runs start z now) e r) in
-    let x = inserted_root n j era mode form ids agreed back cut.0 cut.2.0 now cut.2.1 cut.2.2 q in
+    let x = inserted_root n j new back cut.0 cut.2.0 now cut.2.1 cut.2.2 q in
     let y = roots_still j front start cut.0 cut.1 none in
     let z = no_root limit start j s in
     absurd (none_some (sym z ∙ sym y ∙ sym x ∙ has)))
     (first_of_kind (Does j IsRootOpening) (Spares j RootsNone) (sorted j IsRootOpening RootsNone sort_root) front)
   where
     t : Turn
-    t = turn_by j (inserting_root n era form ids mode agreed)
+    t = turn_by j (inserting_root n new)
 
     found : FirstOf (Does j IsRootOpening) (Spares j RootsNone) front → WasRoot start turns now o
     found l =
@@ -449,7 +419,7 @@ root_origin limit turns front back start now n j o era mode form ids agreed s e 
               (first_of (path.at_open.past.roots j) (object_of (opened.tree.opened p.2.0)))
               ∙ ap (λ z. first_of z (object_of (opened.tree.opened p.2.0))) none ∙ ap object_of is_open in
               let cut = runs_split l.back (t ∷ back) opened now path.to_now in
-              let x = inserted_root n j era mode form ids agreed back cut.0 cut.2.0 now cut.2.1 cut.2.2 q in
+              let x = inserted_root n j new back cut.0 cut.2.0 now cut.2.1 cut.2.2 q in
               let y = roots_kept j adds.0 l.back opened cut.0 cut.1 first in
               (entry, is_open, some_same (sym y ∙ sym x ∙ has))),
         )
@@ -463,11 +433,11 @@ pub origins_law : (limit bound : ℕ) (turns more : List Turn) (start now : Worl
 origins_law limit bound turns more start now n o s d r has = ⊎_elim
     (λ (l : LastOf (Inserts n) (λ (turn : Turn). InsertsNot n turn.step.deed turn.step.reply) turns). ⊎_elim
     (λ (p : IsInsertion n l.one.step).
-    inr (named_origin limit bound turns l.front l.back more start now n l.one.job o p.0 p.1 p.4 p.2 p.3 s d
-    (l.in_turn ∙ ap (λ z. l.front ++ turn_by l.one.job z ∷ l.back) p.5) r l.none has))
+    inr (named_origin limit bound turns l.front l.back more start now n l.one.job o p.0 s d
+    (l.in_turn ∙ ap (λ z. l.front ++ turn_by l.one.job z ∷ l.back) p.1) r l.none has))
     (λ (p : IsRootInsertion n l.one.step).
-    inl (root_origin limit turns l.front l.back start now n l.one.job o p.0 p.3 p.1 p.2 p.4 s
-    (l.in_turn ∙ ap (λ z. l.front ++ turn_by l.one.job z ∷ l.back) p.5) r l.none has))
+    inl (root_origin limit turns l.front l.back start now n l.one.job o p.0 s
+    (l.in_turn ∙ ap (λ z. l.front ++ turn_by l.one.job z ∷ l.back) p.1) r l.none has))
     l.is)
     (λ (none : Each (λ (turn : Turn). InsertsNot n turn.step.deed turn.step.reply) turns).
     let x = numbers_kept n turns start now r none in

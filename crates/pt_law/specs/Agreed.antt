@@ -32,7 +32,7 @@ or_before (Some decided) agreed = decided
 abbrev pub session_by : Option Negotiated → ℕ → Option Deed → ActReply → Session → Session
 session_by decided job (Some (Changes change.Clear)) (Event (event.Cleared era closings)) session =
     record { starter = Some job; agreed = nothing_agreed }
-session_by decided job (Some (Changes (change.InsertRoot era form ids mode said))) (Event (event.Inserted number))
+session_by decided job (Some (Changes (change.InsertRoot new))) (Event (event.Inserted number))
     session =
     record session {
       agreed = if is_starter job session.starter then or_before decided session.agreed else session.agreed;
@@ -50,7 +50,7 @@ agreed_after decided turns = (session_after decided first_session turns).agreed
 
 -- what is said with a root is what is decided
 abbrev pub Says : Option Negotiated → Deed → Type 0
-Says decided (Changes (change.InsertRoot era form ids mode said)) = said ≡ decided
+Says decided (Changes (change.InsertRoot new)) = new.negotiated ≡ decided
 Says decided deed = Unit {0}
 
 -- of a step that was made

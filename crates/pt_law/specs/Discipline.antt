@@ -64,32 +64,32 @@ ShiftsCalled Plain names holds told after = KnowsAll holds names × (after ≡ h
 -- and an event; what gives a hold back ends it, whatever it is told
 abbrev pub ShiftsChanged : Change → List Hold → ActReply → List Hold → Type 0
 ShiftsChanged change.Begin holds told after = after ≡ holds
-ShiftsChanged (change.Resolve number) holds (Event (event.Resolved row form ids mode)) after =
-    Gains (hold.Pin row (row_fd form)) holds after
+ShiftsChanged (change.Resolve number) holds (Event (event.Resolved resolved)) after =
+    Gains (hold.Pin resolved.row (row_fd resolved.form)) holds after
 ShiftsChanged (change.Resolve number) holds told after = after ≡ holds
 ShiftsChanged (change.Unpin row) holds told after = (kept : Option Fd) × Takes (hold.Pin row kept) holds after
-ShiftsChanged (change.Claim era handle ids) holds (Event (event.Claimed number)) after =
-    Gains (hold.Count era number) holds after
-ShiftsChanged (change.Claim era handle ids) holds told after = after ≡ holds
+ShiftsChanged (change.Claim claim) holds (Event (event.Claimed given)) after =
+    Gains (hold.Count claim.era given.number) holds after
+ShiftsChanged (change.Claim claim) holds told after = after ≡ holds
 ShiftsChanged change.TakeFd holds (Event event.Taken) after = Gains hold.Slot holds after
 ShiftsChanged change.TakeFd holds told after = after ≡ holds
 ShiftsChanged change.GiveFd holds told after = Takes hold.Slot holds after
 ShiftsChanged change.DrawNode holds told after = after ≡ holds
-ShiftsChanged (change.Insert era number form ids mode) holds (Event (event.Inserted given)) after =
-    (mid : List Hold) × (rest : List Hold) × Takes (hold.Fd (fd_of form)) holds mid × Takes hold.Slot mid rest
-    × Gains (hold.Count era given) rest after
-ShiftsChanged (change.Insert era number form ids mode) holds (Event (event.Found given)) after =
-    Gains (hold.Count era given) holds after
-ShiftsChanged (change.Insert era number form ids mode) holds told after = after ≡ holds
-ShiftsChanged (change.InsertRoot era form ids mode agreed) holds (Event (event.Inserted given)) after =
-    (mid : List Hold) × Takes (hold.Fd (fd_of form)) holds mid × Takes hold.Slot mid after
-ShiftsChanged (change.InsertRoot era form ids mode agreed) holds told after = after ≡ holds
+ShiftsChanged (change.Insert new) holds (Event (event.Inserted given)) after =
+    (mid : List Hold) × (rest : List Hold) × Takes (hold.Fd (fd_of new.form)) holds mid × Takes hold.Slot mid rest
+    × Gains (hold.Count new.era given) rest after
+ShiftsChanged (change.Insert new) holds (Event (event.Found given)) after =
+    Gains (hold.Count new.era given.number) holds after
+ShiftsChanged (change.Insert new) holds told after = after ≡ holds
+ShiftsChanged (change.InsertRoot new) holds (Event (event.Inserted given)) after =
+    (mid : List Hold) × Takes (hold.Fd (fd_of new.form)) holds mid × Takes hold.Slot mid after
+ShiftsChanged (change.InsertRoot new) holds told after = after ≡ holds
 ShiftsChanged (change.Forget list) holds told after = after ≡ holds
 ShiftsChanged (change.GiveBack era number) holds told after = Takes (hold.Count era number) holds after
 ShiftsChanged change.DrawHandle holds told after = after ≡ holds
-ShiftsChanged (change.InsertHandle era handle number fd) holds (Event (event.Inserted given)) after =
-    (mid : List Hold) × Takes (hold.Fd fd) holds mid × Takes hold.Slot mid after
-ShiftsChanged (change.InsertHandle era handle number fd) holds told after = after ≡ holds
+ShiftsChanged (change.InsertHandle new) holds (Event (event.Inserted given)) after =
+    (mid : List Hold) × Takes (hold.Fd new.fd) holds mid × Takes hold.Slot mid after
+ShiftsChanged (change.InsertHandle new) holds told after = after ≡ holds
 ShiftsChanged (change.PinHandle handle number) holds (Event (event.Pinned row fd)) after =
     Gains (hold.HandlePin row fd) holds after
 ShiftsChanged (change.PinHandle handle number) holds told after = after ≡ holds
@@ -215,8 +215,8 @@ notes_after notes (Calls (call.OpenRoot path flags)) (Host (host.Ok (value.Fd fd
 notes_after notes (Calls (call.OpenPath dir path flags)) (Host (host.Ok (value.Fd fd))) = newly fd notes
 notes_after notes (Calls (call.OpenAt dir name flags mode)) (Host (host.Ok (value.Fd fd))) =
     record (newly fd notes) { latest = found_by flags fd }
-notes_after notes (Changes (change.Resolve number)) (Event (event.Resolved row form ids mode)) =
-    record notes { resolved = Some (record { number = number; row = row }); reopened = None; given = None }
+notes_after notes (Changes (change.Resolve number)) (Event (event.Resolved resolved)) =
+    record notes { resolved = Some (record { number = number; row = resolved.row }); reopened = None; given = None }
 notes_after notes (Calls (call.Reopen fd flags)) (Host (host.Ok (value.Fd new))) =
     record (newly new notes) { reopened = Some new }
 notes_after notes (Calls (call.OpenByHandle mount handle flags)) (Host (host.Ok (value.Fd fd))) = newly fd notes
@@ -225,15 +225,13 @@ notes_after notes (Calls (call.Stat fd)) (Host (host.Ok (value.Stat stat))) =
     record notes { given = None; told = told_as fd (Some stat.ids) ∷ notes.told }
 notes_after notes (Changes change.DrawNode) (Event (event.Drawn number)) = record notes { drawn = Some number }
 notes_after notes (Changes change.DrawHandle) (Event (event.Drawn handle)) = record notes { handle = Some handle }
-notes_after notes (Changes (change.InsertHandle era handle number fd)) (Event (event.Inserted given)) =
-    record (unnoted fd notes) { handle = None }
-notes_after notes (Changes (change.Insert era number form ids mode)) (Event (event.Inserted given)) =
-    record (with_given given ids (unnoted (fd_of form) notes)) { drawn = None }
-notes_after notes (Changes (change.Insert era number form ids mode)) (Event (event.Found given)) =
-    with_given given ids notes
-notes_after notes (Changes (change.Claim era handle ids)) (Event (event.Claimed given)) = with_given given ids notes
-notes_after notes (Changes (change.InsertRoot era form ids mode agreed)) (Event (event.Inserted given)) =
-    unnoted (fd_of form) notes
+notes_after notes (Changes (change.InsertHandle new)) (Event (event.Inserted given)) =
+    record (unnoted new.fd notes) { handle = None }
+notes_after notes (Changes (change.Insert new)) (Event (event.Inserted given)) =
+    record (with_given given new.ids (unnoted (fd_of new.form) notes)) { drawn = None }
+notes_after notes (Changes (change.Insert new)) (Event (event.Found given)) = with_given given.number new.ids notes
+notes_after notes (Changes (change.Claim claim)) (Event (event.Claimed given)) = with_given given.number claim.ids notes
+notes_after notes (Changes (change.InsertRoot new)) (Event (event.Inserted given)) = unnoted (fd_of new.form) notes
 notes_after notes (Changes change.TakeClosing) told = record notes { brought = taken_fd (taken_in told) }
 notes_after notes _ _ = notes
 
@@ -289,16 +287,16 @@ Fits job (Changes change.Begin) = job.notes.era ≡ None
 Fits job (Changes change.Clear) = job.notes.era ≡ None
 Fits job (Calls (call.OpenAt dir name flags mode)) = PinsLatest job dir
 Fits job (Calls (call.Reopen fd flags)) = PinsLatest job fd
-Fits job (Changes (change.InsertHandle era handle number fd)) =
-    (job.notes.era ≡ Some era) × (job.notes.handle ≡ Some handle)
-    × (IsReopened job number fd ⊎ IsGivenFor job number fd)
-Fits job (Changes (change.Claim era handle ids)) =
-    (fd : Fd) × (job.notes.era ≡ Some era) × (job.notes.latest ≡ Some fd) × HoldsTold job fd ids
-Fits job (Changes (change.Insert era number form ids mode)) =
-    (job.notes.era ≡ Some era) × (job.notes.latest ≡ Some (fd_of form)) × (job.notes.drawn ≡ Some number)
-    × HoldsTold job (fd_of form) ids
-Fits job (Changes (change.InsertRoot era form ids mode agreed)) =
-    (job.notes.era ≡ Some era) × (job.notes.root ≡ Some (fd_of form)) × HoldsTold job (fd_of form) ids
+Fits job (Changes (change.InsertHandle new)) =
+    (job.notes.era ≡ Some new.era) × (job.notes.handle ≡ Some new.handle)
+    × (IsReopened job new.number new.fd ⊎ IsGivenFor job new.number new.fd)
+Fits job (Changes (change.Claim claim)) =
+    (fd : Fd) × (job.notes.era ≡ Some claim.era) × (job.notes.latest ≡ Some fd) × HoldsTold job fd claim.ids
+Fits job (Changes (change.Insert new)) =
+    (job.notes.era ≡ Some new.era) × (job.notes.latest ≡ Some (fd_of new.form)) × (job.notes.drawn ≡ Some new.number)
+    × HoldsTold job (fd_of new.form) new.ids
+Fits job (Changes (change.InsertRoot new)) =
+    (job.notes.era ≡ Some new.era) × (job.notes.root ≡ Some (fd_of new.form)) × HoldsTold job (fd_of new.form) new.ids
 Fits job (Changes change.TakeClosing) = (0 < job.owed) × (job.notes.brought ≡ None)
 Fits job deed = Unit {0}
 

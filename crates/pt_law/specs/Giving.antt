@@ -15,12 +15,12 @@ use Rattle.pt_law.specs.Naming.{OpensNone, NamePlaces, NamePath, LedTo, resolvin
 
 -- the deed was asked for an object of these ids, and gave this number
 abbrev pub GivesBy : ℕ → ObjIds → Option Deed → ActReply → Type 0
-GivesBy number ids (Some (Changes (change.Claim era handle asked))) (Event (event.Claimed given)) =
-    (given ≡ number) × (asked ≡ ids)
-GivesBy number ids (Some (Changes (change.Insert era drawn form asked mode))) (Event (event.Inserted given)) =
-    (given ≡ number) × (asked ≡ ids)
-GivesBy number ids (Some (Changes (change.Insert era drawn form asked mode))) (Event (event.Found given)) =
-    (given ≡ number) × (asked ≡ ids)
+GivesBy number ids (Some (Changes (change.Claim claim))) (Event (event.Claimed given)) =
+    (given.number ≡ number) × (claim.ids ≡ ids)
+GivesBy number ids (Some (Changes (change.Insert new))) (Event (event.Inserted given)) =
+    (given ≡ number) × (new.ids ≡ ids)
+GivesBy number ids (Some (Changes (change.Insert new))) (Event (event.Found given)) =
+    (given.number ≡ number) × (new.ids ≡ ids)
 GivesBy number ids deed told = ⊥
 
 -- the places of the run where a job opened a name, and where it was given a number for what it had opened; other
@@ -47,7 +47,7 @@ abbrev pub up_to : {turns : List Turn} {job parent : ℕ} {name : List ℕ} {num
 up_to {job = job} {parent = parent} {name = name} places =
     places.opened.before
     ++ turn_by job
-    (resolving parent places.opened.row places.opened.form places.opened.ids places.opened.mode)
+    (resolving parent places.opened.resolved)
     ∷ (places.opened.between
     ++ turn_by job
     (opening places.opened.dir name places.opened.flags places.opened.made_mode places.opened.fd)

@@ -6,6 +6,7 @@ use Rattle.pt_host.specs.declared.ids.ObjIds.{ObjIds}
 use Rattle.pt_session.specs.Tables.{IsHandle}
 use Rattle.pt_session.specs.Rows.{IsHandleRow}
 use Rattle.pt_session.specs.declared.row.HandleRow.{HandleRow}
+use Rattle.pt_session.specs.declared.event.NewHandle.{NewHandle}
 use Rattle.pt_session.specs.declared.event.KeptEvent.TheVariants as change
 use Rattle.pt_session.specs.declared.reply.EventReply.TheVariants as event
 use Rattle.pt_frame.specs.Deed.{Deed, Changes}
@@ -18,14 +19,17 @@ use Rattle.pt_law.specs.World.{World, Turn, turn_by, Goes, Runs}
 -- a handle is inserted for a number, by this descriptor
 abbrev pub inserting_handle : ℕ → ℕ → ℕ → ℕ → Fd → ActReply → Turn
 inserting_handle job era handle number fd told =
-    turn_by job (made (Changes (change.InsertHandle era handle number fd)) told)
+    turn_by job (made (Changes (change.InsertHandle new)) told)
+  where
+    new : NewHandle
+    new = record { era = era; handle = handle; number = number; fd = fd }
 
 -- a number is neither resolved nor given
 abbrev pub ComesToNone : Option Deed → ActReply → Type 0
-ComesToNone (Some (Changes (change.Resolve number))) (Event (event.Resolved row form ids mode)) = ⊥
-ComesToNone (Some (Changes (change.Claim era handle ids))) (Event (event.Claimed given)) = ⊥
-ComesToNone (Some (Changes (change.Insert era number form ids mode))) (Event (event.Inserted given)) = ⊥
-ComesToNone (Some (Changes (change.Insert era number form ids mode))) (Event (event.Found given)) = ⊥
+ComesToNone (Some (Changes (change.Resolve number))) (Event (event.Resolved resolved)) = ⊥
+ComesToNone (Some (Changes (change.Claim claim))) (Event (event.Claimed given)) = ⊥
+ComesToNone (Some (Changes (change.Insert new))) (Event (event.Inserted given)) = ⊥
+ComesToNone (Some (Changes (change.Insert new))) (Event (event.Found given)) = ⊥
 ComesToNone deed told = Unit {0}
 
 -- behind the places where a job was given a number: where it inserted this handle for that number

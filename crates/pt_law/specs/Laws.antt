@@ -85,21 +85,21 @@ pub record IsOvertaken (job : ℕ) (turns : List Turn) : Type 0 where
 
 -- the tables refused it because the session had begun anew
 abbrev pub TellsOvertaken : Option Deed → ActReply → Type 0
-TellsOvertaken (Some (Changes (change.Claim era handle ids))) (Event (event.Refused Overtaken)) = Unit {0}
-TellsOvertaken (Some (Changes (change.Insert era number form ids mode))) (Event (event.Refused Overtaken)) = Unit {0}
-TellsOvertaken (Some (Changes (change.InsertRoot era form ids mode agreed))) (Event (event.Refused Overtaken)) =
+TellsOvertaken (Some (Changes (change.Claim claim))) (Event (event.Refused Overtaken)) = Unit {0}
+TellsOvertaken (Some (Changes (change.Insert new))) (Event (event.Refused Overtaken)) = Unit {0}
+TellsOvertaken (Some (Changes (change.InsertRoot new))) (Event (event.Refused Overtaken)) =
     Unit {0}
-TellsOvertaken (Some (Changes (change.InsertHandle era handle number fd))) (Event (event.Refused Overtaken)) =
+TellsOvertaken (Some (Changes (change.InsertHandle new))) (Event (event.Refused Overtaken)) =
     Unit {0}
 TellsOvertaken deed told = ⊥
 
 -- the tables gave the job a number, or took its handle
 abbrev pub TellsGiven : Option Deed → ActReply → Type 0
-TellsGiven (Some (Changes (change.Claim era handle ids))) (Event (event.Claimed number)) = Unit {0}
-TellsGiven (Some (Changes (change.Insert era number form ids mode))) (Event (event.Inserted given)) = Unit {0}
-TellsGiven (Some (Changes (change.Insert era number form ids mode))) (Event (event.Found given)) = Unit {0}
-TellsGiven (Some (Changes (change.InsertRoot era form ids mode agreed))) (Event (event.Inserted given)) = Unit {0}
-TellsGiven (Some (Changes (change.InsertHandle era handle number fd))) (Event (event.Inserted given)) = Unit {0}
+TellsGiven (Some (Changes (change.Claim claim))) (Event (event.Claimed given)) = Unit {0}
+TellsGiven (Some (Changes (change.Insert new))) (Event (event.Inserted given)) = Unit {0}
+TellsGiven (Some (Changes (change.Insert new))) (Event (event.Found given)) = Unit {0}
+TellsGiven (Some (Changes (change.InsertRoot new))) (Event (event.Inserted given)) = Unit {0}
+TellsGiven (Some (Changes (change.InsertHandle new))) (Event (event.Inserted given)) = Unit {0}
 TellsGiven deed told = ⊥
 
 -- the step begins a job: in the era that there is, or in a new one

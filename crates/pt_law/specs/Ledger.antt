@@ -59,14 +59,14 @@ kept_slots tables =
 -- what a reply brings a job
 abbrev pub slot_taken : ActReply → ℕ
 slot_taken (Event event.Taken) = 1
-slot_taken (Event (event.Closing fd slot)) = one_if slot
+slot_taken (Event (event.Closing first)) = one_if first.slot
 slot_taken _ = 0
 
 -- what a job gives back or puts into the tables
 abbrev pub slot_given : Deed → ActReply → ℕ
-slot_given (Changes (change.Insert era number form ids mode)) (Event (event.Inserted given)) = form_slot form
-slot_given (Changes (change.InsertRoot era form ids mode agreed)) (Event (event.Inserted given)) = form_slot form
-slot_given (Changes (change.InsertHandle era handle number fd)) (Event (event.Inserted given)) = 1
+slot_given (Changes (change.Insert new)) (Event (event.Inserted given)) = form_slot new.form
+slot_given (Changes (change.InsertRoot new)) (Event (event.Inserted given)) = form_slot new.form
+slot_given (Changes (change.InsertHandle new)) (Event (event.Inserted given)) = 1
 slot_given _ (Event event.Given) = 1
 slot_given _ _ = 0
 
@@ -131,15 +131,14 @@ fd_ended fd (Changes asked) told = 0
 
 -- one that it hands to the tables
 abbrev pub fd_handed : ℕ → Deed → ActReply → ℕ
-fd_handed fd (Changes (change.Insert era number form ids mode)) (Event (event.Inserted given)) = is (fd_of form).0 fd
-fd_handed fd (Changes (change.InsertRoot era form ids mode agreed)) (Event (event.Inserted given)) =
-    is (fd_of form).0 fd
-fd_handed fd (Changes (change.InsertHandle era handle number same)) (Event (event.Inserted given)) = is same.0 fd
+fd_handed fd (Changes (change.Insert new)) (Event (event.Inserted given)) = is (fd_of new.form).0 fd
+fd_handed fd (Changes (change.InsertRoot new)) (Event (event.Inserted given)) = is (fd_of new.form).0 fd
+fd_handed fd (Changes (change.InsertHandle new)) (Event (event.Inserted given)) = is new.fd.0 fd
 fd_handed fd deed told = 0
 
 -- one that it takes from their closing list
 abbrev pub fd_received : ℕ → Deed → ActReply → ℕ
-fd_received fd (Changes change.TakeClosing) (Event (event.Closing same slot)) = is same.0 fd
+fd_received fd (Changes change.TakeClosing) (Event (event.Closing first)) = is first.fd.0 fd
 fd_received fd deed told = 0
 
 abbrev pub fd_taken : ℕ → Deed → ActReply → ℕ
@@ -150,7 +149,7 @@ fd_given fd deed told = fd_ended fd deed told + fd_handed fd deed told
 
 -- a pin of a number's row, taken and given back
 abbrev pub pin_made : ℕ → Deed → ActReply → ℕ
-pin_made serial (Changes (change.Resolve number)) (Event (event.Resolved row form ids mode)) = is row serial
+pin_made serial (Changes (change.Resolve number)) (Event (event.Resolved resolved)) = is resolved.row serial
 pin_made serial deed told = 0
 
 abbrev pub pin_ended : ℕ → Deed → ActReply → ℕ
@@ -168,12 +167,11 @@ handle_pin_ended serial deed told = 0
 
 -- a count of a number in an era; the root's two are given to no job
 abbrev pub count_made : ℕ → ℕ → Deed → ActReply → ℕ
-count_made era number (Changes (change.Claim same handle ids)) (Event (event.Claimed given)) =
-    is same era * is given number
-count_made era number (Changes (change.Insert same drawn form ids mode)) (Event (event.Inserted given)) =
-    is same era * is given number
-count_made era number (Changes (change.Insert same drawn form ids mode)) (Event (event.Found given)) =
-    is same era * is given number
+count_made era number (Changes (change.Claim claim)) (Event (event.Claimed given)) =
+    is claim.era era * is given.number number
+count_made era number (Changes (change.Insert new)) (Event (event.Inserted given)) = is new.era era * is given number
+count_made era number (Changes (change.Insert new)) (Event (event.Found given)) =
+    is new.era era * is given.number number
 count_made era number deed told = 0
 
 abbrev pub count_ended : ℕ → ℕ → Deed → ActReply → ℕ
@@ -197,13 +195,10 @@ forgotten number had [] = had
 forgotten number had (pair ∷ pairs) = forgotten number (had - is pair.0 number * pair.1) pairs
 
 abbrev pub given_by : ℕ → ℕ → Deed → ActReply → ℕ
-given_by number had (Changes (change.InsertRoot era form ids mode agreed)) (Event (event.Inserted given)) =
-    had + is given number * 2
-given_by number had (Changes (change.Insert era drawn form ids mode)) (Event (event.Inserted given)) =
-    had + is given number
-given_by number had (Changes (change.Insert era drawn form ids mode)) (Event (event.Found given)) =
-    had + is given number
-given_by number had (Changes (change.Claim era handle ids)) (Event (event.Claimed given)) = had + is given number
+given_by number had (Changes (change.InsertRoot new)) (Event (event.Inserted given)) = had + is given number * 2
+given_by number had (Changes (change.Insert new)) (Event (event.Inserted given)) = had + is given number
+given_by number had (Changes (change.Insert new)) (Event (event.Found given)) = had + is given.number number
+given_by number had (Changes (change.Claim claim)) (Event (event.Claimed given)) = had + is given.number number
 given_by number had (Changes (change.Forget list)) (Event (event.Done closings)) = forgotten number had list
 given_by number had (Changes (change.GiveBack era given)) (Event (event.Done closings)) = had - is given number
 given_by number had (Changes change.Clear) (Event (event.Cleared era closings)) = 0
@@ -216,9 +211,8 @@ given number turns = after_all (given_by number) 0 turns
 -- Insertions.
 
 abbrev pub inserted_as : ℕ → Deed → ActReply → ℕ
-inserted_as number (Changes (change.InsertRoot era form ids mode agreed)) (Event (event.Inserted given)) =
-    is given number
-inserted_as number (Changes (change.Insert era drawn form ids mode)) (Event (event.Inserted given)) = is given number
+inserted_as number (Changes (change.InsertRoot new)) (Event (event.Inserted given)) = is given number
+inserted_as number (Changes (change.Insert new)) (Event (event.Inserted given)) = is given number
 inserted_as number deed told = 0
 
 -- how often the number was inserted
@@ -228,8 +222,7 @@ inserted number turns = total (λ turn. weighed (inserted_as number) turn.step.d
 -- Handles.
 
 abbrev pub handle_inserted_as : ℕ → Deed → ActReply → ℕ
-handle_inserted_as handle (Changes (change.InsertHandle era drawn number fd)) (Event (event.Inserted given)) =
-    is given handle
+handle_inserted_as handle (Changes (change.InsertHandle new)) (Event (event.Inserted given)) = is given handle
 handle_inserted_as handle deed told = 0
 
 -- how often the handle was inserted
@@ -237,8 +230,7 @@ abbrev pub handle_inserted : ℕ → List Turn → ℕ
 handle_inserted handle turns = total (λ turn. weighed (handle_inserted_as handle) turn.step.deed turn.step.reply) turns
 
 abbrev pub standing_by : ℕ → ℕ → Deed → ActReply → ℕ
-standing_by handle had (Changes (change.InsertHandle era drawn number fd)) (Event (event.Inserted given)) =
-    had + is given handle
+standing_by handle had (Changes (change.InsertHandle new)) (Event (event.Inserted given)) = had + is given handle
 standing_by handle had (Changes (change.Release released number)) (Event (event.Done closings)) =
     had - is released handle
 standing_by handle had (Changes change.Clear) (Event (event.Cleared era closings)) = 0

@@ -33,7 +33,7 @@ abbrev pub up_to_name : {turns : List Turn} {job number : ℕ} {name : List ℕ}
     List Turn
 up_to_name {job = job} {number = number} {name = name} places =
     places.before
-    ++ turn_by job (resolving number places.row places.form places.ids places.mode)
+    ++ turn_by job (resolving number places.resolved)
     ∷ (places.between ++ turn_by job (opening places.dir name places.flags places.made_mode places.fd) ∷ [])
 
 -- Before the places where a job was given a number: where it made an object under the same name, in what the same

@@ -3,13 +3,12 @@ use Rattle.std.specs.Prelude.{◌≡◌, ℕ, List, ◌∷◌, ◌++◌, Option,
 use Rattle.pt_host.specs.Words.{Each}
 use Rattle.pt_host.specs.Tree.{IsOpenOn}
 use Rattle.pt_host.specs.declared.ids.Fd.{Fd}
-use Rattle.pt_host.specs.declared.ids.ObjIds.{ObjIds}
 use Rattle.pt_host.specs.declared.flags.OpenFlags.{OpenFlags}
 use Rattle.pt_host.specs.declared.op.KeptHostOp.TheVariants as call
 use Rattle.pt_host.specs.declared.reply.HostReply.TheVariants as host
 use Rattle.pt_host.specs.declared.reply.HostValue.TheVariants as value
-use Rattle.pt_session.specs.declared.form.RowForm.{RowForm}
 use Rattle.pt_session.specs.declared.event.KeptEvent.TheVariants as change
+use Rattle.pt_session.specs.declared.reply.Resolved.{Resolved}
 use Rattle.pt_session.specs.declared.reply.EventReply.TheVariants as event
 use Rattle.pt_frame.specs.Deed.{Deed, Calls, Changes, Step}
 use Rattle.pt_frame.specs.declared.act.ActReply.{ActReply}
@@ -22,15 +21,15 @@ abbrev pub made : Deed → ActReply → Step
 made deed told = record { deed = Some deed; reply = told }
 
 -- a number is resolved to a row, and a name is opened
-abbrev pub resolving : ℕ → ℕ → RowForm → ObjIds → ℕ → Step
-resolving number row form ids mode = made (Changes (change.Resolve number)) (Event (event.Resolved row form ids mode))
+abbrev pub resolving : ℕ → Resolved → Step
+resolving number row = made (Changes (change.Resolve number)) (Event (event.Resolved row))
 
 abbrev pub opening : Fd → List ℕ → OpenFlags → ℕ → Fd → Step
 opening dir name flags mode fd = made (Calls (call.OpenAt dir name flags mode)) (Host (host.Ok (value.Fd fd)))
 
 -- no number is resolved
 abbrev pub ResolvesNone : Option Deed → ActReply → Type 0
-ResolvesNone (Some (Changes (change.Resolve number))) (Event (event.Resolved row form ids mode)) = ⊥
+ResolvesNone (Some (Changes (change.Resolve number))) (Event (event.Resolved resolved)) = ⊥
 ResolvesNone deed told = Unit {0}
 
 -- no name is opened
@@ -44,17 +43,14 @@ pub record NamePlaces (turns : List Turn) (job number : ℕ) (name : List ℕ) :
   pub between : List Turn
   pub later : List Turn
   -- what the resolving told
-  pub row : ℕ
-  pub form : RowForm
-  pub ids : ObjIds
-  pub mode : ℕ
+  pub resolved : Resolved
   -- how the name was opened, and what that told
   pub dir : Fd
   pub flags : OpenFlags
   pub made_mode : ℕ
   pub fd : Fd
   pub in_turn : turns ≡ before
-      ++ turn_by job (resolving number row form ids mode)
+      ++ turn_by job (resolving number resolved)
       ∷ (between ++ turn_by job (opening dir name flags made_mode fd) ∷ later)
   -- in between the job resolved no other number
   pub resolved_last : Each (λ step. ResolvesNone step.deed step.reply) (steps_of job between)
@@ -73,7 +69,7 @@ pub record NamePath
   pub at_open : World
   pub to_resolve : Runs start places.before at_resolve
   pub resolves :
-      Goes at_resolve (turn_by job (resolving number places.row places.form places.ids places.mode)) resolved
+      Goes at_resolve (turn_by job (resolving number places.resolved)) resolved
   pub to_open : Runs resolved places.between at_open
   pub opens :
       Goes at_open (turn_by job (opening places.dir name places.flags places.made_mode places.fd)) opened

@@ -3,12 +3,11 @@ use Rattle.std.specs.Prelude.{◌≡◌, ℕ, List, [], ◌∷◌, ◌++◌, Som
 use Rattle.pt_host.specs.Words.{Each}
 use Rattle.pt_host.specs.Tree.{IsOpenOn}
 use Rattle.pt_host.specs.declared.ids.Fd.{Fd}
-use Rattle.pt_host.specs.declared.ids.ObjIds.{ObjIds}
 use Rattle.pt_host.specs.declared.flags.OpenFlags.{OpenFlags}
 use Rattle.pt_host.specs.declared.op.KeptHostOp.TheVariants as call
 use Rattle.pt_host.specs.declared.reply.HostReply.TheVariants as host
 use Rattle.pt_host.specs.declared.reply.HostValue.TheVariants as value
-use Rattle.pt_session.specs.declared.form.RowForm.{RowForm}
+use Rattle.pt_session.specs.declared.reply.Resolved.{Resolved}
 use Rattle.pt_frame.specs.Deed.{Calls, Step}
 use Rattle.pt_frame.specs.declared.act.ActReply.TheVariants.{Host}
 use Rattle.pt_law.specs.Handling.{ComesToNone}
@@ -22,13 +21,10 @@ reopening job fd flags new = turn_by job (made (Calls (call.Reopen fd flags)) (H
 -- then.
 pub record OpensResolved (world : World) (job : ℕ) (steps : List Step) (fd : Fd) : Type 0 where
   pub number : ℕ
-  pub row : ℕ
-  pub form : RowForm
-  pub ids : ObjIds
-  pub mode : ℕ
+  pub row : Resolved
   pub before : List Step
   pub between : List Step
-  pub resolved : steps ≡ before ++ resolving number row form ids mode ∷ between
+  pub resolved : steps ≡ before ++ resolving number row ∷ between
   pub came_last : Each (λ step. ComesToNone step.deed step.reply) between
   pub object : ℕ
   pub stood_for : world.past.resolved job number ≡ Some object

@@ -91,17 +91,20 @@ come_to past job number object =
 -- `Insert` sets its number's object to what the job's latest `OpenAt` answered, `InsertRoot` to what its first
 -- `OpenRoot` answered.
 abbrev pub settled_by : Past → ℕ → Deed → ActReply → ℕ → Tree → Past
-settled_by past job (Changes (change.Insert era number form ids mode)) (Event (event.Inserted given)) row tree =
-    come_to (settled past given row (fd_of form) (past.latest job)) job given (past.latest job)
-settled_by past job (Changes (change.Insert era number form ids mode)) (Event (event.Found given)) row tree =
-    come_to past job given (past.numbers given)
-settled_by past job (Changes (change.Claim era handle ids)) (Event (event.Claimed given)) row tree =
-    come_to past job given (past.numbers given)
-settled_by past job (Changes (change.InsertRoot era form ids mode agreed)) (Event (event.Inserted given)) row tree =
-    settled past given row (fd_of form) (past.roots job)
-settled_by past job (Changes (change.InsertHandle era handle number fd)) (Event (event.Inserted given)) row tree =
-    record past { objects = set_at row (past.resolved job number) past.objects; fds = set_at row (Some fd) past.fds }
-settled_by past job (Changes (change.Resolve number)) (Event (event.Resolved serial form ids mode)) row tree =
+settled_by past job (Changes (change.Insert new)) (Event (event.Inserted given)) row tree =
+    come_to (settled past given row (fd_of new.form) (past.latest job)) job given (past.latest job)
+settled_by past job (Changes (change.Insert new)) (Event (event.Found given)) row tree =
+    come_to past job given.number (past.numbers given.number)
+settled_by past job (Changes (change.Claim claim)) (Event (event.Claimed given)) row tree =
+    come_to past job given.number (past.numbers given.number)
+settled_by past job (Changes (change.InsertRoot new)) (Event (event.Inserted given)) row tree =
+    settled past given row (fd_of new.form) (past.roots job)
+settled_by past job (Changes (change.InsertHandle new)) (Event (event.Inserted given)) row tree =
+    record past {
+      objects = set_at row (past.resolved job new.number) past.objects;
+      fds = set_at row (Some new.fd) past.fds;
+    }
+settled_by past job (Changes (change.Resolve number)) (Event (event.Resolved resolved)) row tree =
     come_to past job number (past.numbers number)
 settled_by past job (Calls (call.OpenAt dir name flags mode)) (Host (host.Ok (value.Fd fd))) row tree =
     record past { latest = set_at job (object_of (tree.opened fd.0)) past.latest }

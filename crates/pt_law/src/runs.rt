@@ -9,7 +9,7 @@ ghost use Rattle.pt_host.specs.declared.ids.Fd.{Fd};
 ghost use Rattle.pt_host.specs.declared.ids.ObjIds.{ObjIds};
 ghost use Rattle.pt_session.specs.Tables.{Tables, Agree, empty_tables};
 ghost use Rattle.pt_session.specs.declared.form.Negotiated.{Negotiated};
-ghost use Rattle.pt_session.specs.declared.form.RowForm.{RowForm};
+ghost use Rattle.pt_session.specs.declared.reply.Resolved.{Resolved};
 ghost use Rattle.pt_session.specs.declared.row.Row.{Row};
 ghost use Rattle.pt_session.specs.declared.row.HandleRow.{HandleRow};
 ghost use Rattle.pt_session.specs.Rows.{IsRow, IsHandleRow};
@@ -105,9 +105,9 @@ pub fn every_told_run()
         Starts limit start → AreDisciplined bound (turns ++ turn ∷ more) → Runs start turns now →
         NamesOpen now.tree turn.step.deed }
     ensures placed { (turns : List Turn) (job parent : ℕ) (name : List ℕ) (number : ℕ) (ids : ObjIds)
-        (path first between middle rest : List Step) (row mode how : ℕ) (form : RowForm) (its : ObjIds) (dir fd : Fd)
-        (flags : OpenFlags) (give : Step) → AreOwn path (steps_of job turns) →
-        path ≡ first ++ resolving parent row form its mode
+        (path first between middle rest : List Step) (row : Resolved) (how : ℕ) (dir fd : Fd) (flags : OpenFlags)
+        (give : Step) → AreOwn path (steps_of job turns) →
+        path ≡ first ++ resolving parent row
         ∷ (between ++ opening dir name flags how fd ∷ (middle ++ give ∷ rest)) →
         Each (λ step. ResolvesNone step.deed step.reply) between →
         Each (λ step. OpensNone step.deed step.reply) middle → GivesBy number ids give.deed give.reply →

@@ -44,7 +44,7 @@ use Rattle.pt_req.specs.declared.parts.looked.Looked.{Looked}
 use Rattle.pt_req.specs.declared.plan.Plan.{Plan}
 use Rattle.pt_req.specs.declared.replies.Made.{Made}
 use Rattle.pt_req.specs.declared.replies.Made.TheVariants.{New, Old}
-use Rattle.pt_req.specs.declared.replies.Resolved.{Resolved}
+use Rattle.pt_session.specs.declared.reply.Resolved.{Resolved}
 
 -- so many more
 abbrev pub plus : ℕ → ℕ → ℕ

@@ -5,14 +5,14 @@ use Rattle.std.specs.Ordering.{int_eq}
 use Rattle.pt_host.specs.Errno.{eexist}
 use Rattle.pt_host.specs.declared.ids.Errno.{Errno}
 use Rattle.pt_host.specs.declared.ids.Fd.{Fd}
-use Rattle.pt_host.specs.declared.ids.ObjIds.{ObjIds}
 use Rattle.pt_host.specs.declared.stat.Stat.{Stat}
 use Rattle.pt_host.specs.declared.reply.HostReply.{HostReply}
 use Rattle.pt_host.specs.declared.reply.HostReply.TheVariants as host
 use Rattle.pt_host.specs.declared.reply.HostValue.{HostValue}
 use Rattle.pt_host.specs.declared.reply.HostValue.TheVariants as value
-use Rattle.pt_session.specs.declared.form.RowForm.{RowForm}
 use Rattle.pt_session.specs.declared.form.Negotiated.{Negotiated}
+use Rattle.pt_session.specs.declared.reply.GivenNumber.{GivenNumber}
+use Rattle.pt_session.specs.declared.reply.Resolved.{Resolved}
 use Rattle.pt_session.specs.declared.reply.EventReply.TheVariants as event
 use Rattle.pt_iface.specs.declared.answer.Answer.{Answer}
 use Rattle.pt_iface.specs.declared.answer.Answer.TheVariants as answer
@@ -20,14 +20,13 @@ use Rattle.pt_frame.specs.Tree.{RequestTree, Refuses, on, go_on}
 use Rattle.pt_frame.specs.Replies.{bytes_of}
 use Rattle.pt_frame.specs.declared.act.ActReply.{ActReply}
 use Rattle.pt_frame.specs.declared.act.ActReply.TheVariants.{Event, Host, NoCopy}
-use Rattle.pt_req.specs.Steps.{session_of, began_in, cleared_in, resolved_of, resolved_in, fd_in, ok_in, tried_in}
+use Rattle.pt_req.specs.Steps.{session_of, began_in, cleared_in, resolved_in, fd_in, ok_in, tried_in}
 use Rattle.pt_req.specs.Steps.{made_in}
 use Rattle.pt_req.specs.Steps.{stat_in, refused_in, claimed_in, taken_in, drawn_in, numbered_in, inserted_in, pinned_in}
 use Rattle.pt_req.specs.Steps.{done_in}
 use Rattle.pt_req.specs.declared.begun.BegunSession.{BegunSession}
 use Rattle.pt_req.specs.declared.replies.Made.{Made}
 use Rattle.pt_req.specs.declared.replies.Made.TheVariants.{New, Old}
-use Rattle.pt_req.specs.declared.replies.Resolved.{Resolved}
 
 -- a fact of a reply and of what follows it, which holds of every refusal
 abbrev pub OfRefusals : (ActReply → RequestTree → Type 0) → Type 0
@@ -48,11 +47,10 @@ if_cleared P next refused so (Event (event.Cleared era closings)) = so era closi
 if_cleared P next refused so told = refused told
 
 pub if_resolved : (P : ActReply → RequestTree → Type 0) (next : Resolved → RequestTree) → OfRefusals P →
-    ((row : ℕ) (form : RowForm) (ids : ObjIds) (mode : ℕ) → P (Event (event.Resolved row form ids mode))
-    (next (resolved_of row form ids mode))) →
+    ((row : Resolved) → P (Event (event.Resolved row)) (next row)) →
     (told : ActReply) → P told (on resolved_in next told)
 unfolding on go_on
-if_resolved P next refused so (Event (event.Resolved row form ids mode)) = so row form ids mode
+if_resolved P next refused so (Event (event.Resolved row)) = so row
 if_resolved P next refused so told = refused told
 
 pub if_fd : (P : ActReply → RequestTree → Type 0) (next : Fd → RequestTree) → OfRefusals P →
@@ -127,11 +125,11 @@ if_bytes P next refused so (Host (host.Ok (value.Bytes bytes))) = so bytes
 if_bytes P next refused so told = refused told
 
 pub if_claimed : (P : ActReply → RequestTree → Type 0) (next : Option ℕ → RequestTree) → OfRefusals P →
-    ((number : ℕ) → P (Event (event.Claimed number)) (next (Some number))) →
+    ((given : GivenNumber) → P (Event (event.Claimed given)) (next (Some given.number))) →
     P (Event event.Absent) (next None) →
     (told : ActReply) → P told (on claimed_in next told)
 unfolding on go_on
-if_claimed P next refused so other (Event (event.Claimed number)) = so number
+if_claimed P next refused so other (Event (event.Claimed given)) = so given
 if_claimed P next refused so other (Event event.Absent) = other
 if_claimed P next refused so other told = refused told
 
@@ -151,11 +149,11 @@ if_drawn P next refused so told = refused told
 
 pub if_numbered : (P : ActReply → RequestTree → Type 0) (next : ℕ → RequestTree) → OfRefusals P →
     ((number : ℕ) → P (Event (event.Inserted number)) (next number)) →
-    ((number : ℕ) → P (Event (event.Found number)) (next number)) →
+    ((given : GivenNumber) → P (Event (event.Found given)) (next given.number)) →
     (told : ActReply) → P told (on numbered_in next told)
 unfolding on go_on
 if_numbered P next refused so found (Event (event.Inserted number)) = so number
-if_numbered P next refused so found (Event (event.Found number)) = found number
+if_numbered P next refused so found (Event (event.Found given)) = found given
 if_numbered P next refused so found told = refused told
 
 pub if_inserted : (P : ActReply → RequestTree → Type 0) (next : RequestTree) → OfRefusals P →

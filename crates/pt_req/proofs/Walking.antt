@@ -35,7 +35,8 @@ use Rattle.pt_frame.specs.declared.act.ActReply.TheVariants.{Event, Host, NoCopy
 use Rattle.pt_session.specs.Tables.{nothing_agreed}
 use Rattle.pt_req.specs.Options.{cleaned, inode_flags, agreed_with, init_options, open_options}
 use Rattle.pt_req.specs.Options.{making_flags, create_options, without_nofollow}
-use Rattle.pt_req.specs.Steps.{session_of, resolved_of, began_in, cleared_in, resolved_in, fd_in, tried_in, made_in}
+use Rattle.pt_req.specs.Steps.{session_of, began_in, cleared_in, resolved_in, fd_in, tried_in, made_in, claim_of}
+use Rattle.pt_req.specs.Steps.{new_row_of, new_root_of, new_handle_of}
 use Rattle.pt_req.specs.Steps.{stat_in, refused_in, claimed_in, taken_in, drawn_in, numbered_in, inserted_in, pinned_in}
 use Rattle.pt_req.specs.Steps.{done_in, begin, clear, resolve, open_root, open_at, reopen, stat, read_at, claim}
 use Rattle.pt_req.specs.Steps.{take_fd}
@@ -55,7 +56,7 @@ use Rattle.pt_req.specs.declared.begun.BegunSession.{BegunSession}
 use Rattle.pt_req.specs.declared.parts.asked.NamedHandle.{NamedHandle}
 use Rattle.pt_req.specs.declared.parts.looked.Looked.{Looked}
 use Rattle.pt_req.specs.declared.plan.Plan.{Plan}
-use Rattle.pt_req.specs.declared.replies.Resolved.{Resolved}
+use Rattle.pt_session.specs.declared.reply.Resolved.{Resolved}
 use Rattle.pt_req.proofs.Flags.{creates as creates_file}
 use Rattle.pt_req.proofs.Replying.{if_began, if_cleared, if_resolved, if_fd, if_stat, if_bytes, if_claimed, if_taken}
 use Rattle.pt_req.proofs.Replying.{if_made, if_refused, if_tried, if_drawn, if_numbered, if_inserted, if_pinned}
@@ -81,8 +82,7 @@ OfDeed D dropped (Calls (call.WriteAt fd offset bytes append)) =
     D dropped (Calls (call.WriteAt fd offset bytes append))
 OfDeed D dropped (Calls (call.Truncate fd size)) = D dropped (Calls (call.Truncate fd size))
 OfDeed D dropped (Calls asked) = dropped ≡ false
-OfDeed D dropped (Changes (change.InsertRoot era form ids mode said)) =
-    D dropped (Changes (change.InsertRoot era form ids mode said))
+OfDeed D dropped (Changes (change.InsertRoot new)) = D dropped (Changes (change.InsertRoot new))
 OfDeed D dropped (Changes asked) = Unit {0}
 
 -- Such a fact of a tree under a scope, behind this reply, until the scope ends: what ends the request before is a
@@ -146,7 +146,7 @@ OfOpening D dropped = (fd : Fd) (how : OpenFlags) → D dropped (Calls (call.Reo
 -- and of what it says to be agreed on, with the root
 abbrev pub OfRoot : (Bool → Deed → Type 0) → Option Negotiated → Type 0
 OfRoot D said =
-    (era : ℕ) (form : RowForm) (ids : ObjIds) (mode : ℕ) → D false (Changes (change.InsertRoot era form ids mode said))
+    (era : ℕ) (form : RowForm) (told : Stat) → D false (Changes (change.InsertRoot (new_root_of era form told said)))
 
 -- under a scope a number is looked up
 module _ (D : Bool → Deed → Type 0) (dropped : Bool) (Q : RequestTree → Type 0) where
@@ -157,8 +157,7 @@ module _ (D : Bool → Deed → Type 0) (dropped : Bool) (Q : RequestTree → Ty
     refl,
     tt,
     closes,
-    if_resolved (InScope D dropped Q) next (λ later. refl)
-        (λ row form ids mode. so (resolved_of row form ids mode) _),
+    if_resolved (InScope D dropped Q) next (λ later. refl) (λ row. so row _),
   )
     where
       closes : (later : ActReply) → closings_in (Changes (change.Resolve number)) later ≡ 0
@@ -213,8 +212,7 @@ module _
     pub resolves : (number : ℕ) (next : Resolved → RequestTree) → ((row : Resolved) → Q (next row)) →
         Q (resolve number next)
     resolves number next so = w.asks (Changes (change.Resolve number)) (on resolved_in next) refl refl tt
-        (if_resolved R next w.refuses (λ row form ids mode.
-        w.had _ _ (so (resolved_of row form ids mode))))
+        (if_resolved R next w.refuses (λ row. w.had _ _ (so row)))
 
     pub opens_root : (dir : List ℕ) (flags : OpenFlags) (next : Fd → RequestTree) → ((fd : Fd) → Q (next fd)) →
         Q (open_root dir flags next)
@@ -243,8 +241,8 @@ module _
     pub claims : (session : BegunSession) (handle : Option FileHandle) (ids : ObjIds) (next : Option ℕ → RequestTree) →
         ((given : Option ℕ) → Q (next given)) → Q (claim session handle ids next)
     claims session handle ids next so =
-        w.asks (Changes (change.Claim session.era handle ids)) (on claimed_in next) refl refl tt
-        (if_claimed R next w.refuses (λ number. w.had _ _ (so (Some number))) (w.had _ _ (so None)))
+        w.asks (Changes (change.Claim (claim_of session.era handle ids))) (on claimed_in next) refl refl tt
+        (if_claimed R next w.refuses (λ given. w.had _ _ (so (Some given.number))) (w.had _ _ (so None)))
 
     pub takes : (next : RequestTree) → Q next → Q (take_fd next)
     takes next so = w.asks (Changes change.TakeFd) (on taken_in (λ done. next)) refl refl tt
@@ -261,20 +259,21 @@ module _
     pub inserts : (session : BegunSession) (fresh : ℕ) (form : RowForm) (told : Stat) (next : ℕ → RequestTree) →
         ((number : ℕ) → Q (next number)) → Q (insert session fresh form told next)
     inserts session fresh form told next so =
-        w.asks (Changes (change.Insert session.era fresh form told.ids told.mode)) (on numbered_in next) refl refl tt
-        (if_numbered R next w.refuses (λ number. w.had _ _ (so number)) (λ number. w.had _ _ (so number)))
+        w.asks (Changes (change.Insert (new_row_of session.era fresh form told))) (on numbered_in next) refl refl tt
+        (if_numbered R next w.refuses (λ number. w.had _ _ (so number)) (λ given. w.had _ _ (so given.number)))
 
     pub inserts_root : (session : BegunSession) (form : RowForm) (told : Stat) (agreed : Option Negotiated)
         (next : RequestTree) → OfRoot D agreed → Q next → Q (insert_root session form told agreed next)
     inserts_root session form told agreed next may so =
-        w.asks (Changes (change.InsertRoot session.era form told.ids told.mode agreed)) (on inserted_in (λ done. next))
-        refl refl (may session.era form told.ids told.mode)
+        w.asks (Changes (change.InsertRoot (new_root_of session.era form told agreed))) (on inserted_in (λ done. next))
+        refl refl (may session.era form told)
         (if_inserted R next w.refuses (λ number. w.had _ _ so))
 
     pub inserts_handle : (session : BegunSession) (handle number : ℕ) (fd : Fd) (next : RequestTree) → Q next →
         Q (insert_handle session handle number fd next)
     inserts_handle session handle number fd next so =
-        w.asks (Changes (change.InsertHandle session.era handle number fd)) (on inserted_in (λ done. next)) refl refl tt
+        w.asks (Changes (change.InsertHandle (new_handle_of session.era handle number fd)))
+        (on inserted_in (λ done. next)) refl refl tt
         (if_inserted R next w.refuses (λ handle. w.had _ _ so))
 
     pub pins : (handle number : ℕ) (next : Fd → RequestTree) → ((fd : Fd) → Q (next fd)) →

@@ -19,7 +19,7 @@ use Rattle.pt_req.specs.Steps.{Part, ◌>>=◌, ◌>>◌, resolve, open_root, op
 use Rattle.pt_req.specs.Steps.{draw_handle, insert, insert_root, insert_handle}
 use Rattle.pt_req.specs.Entries.{is_bad_name, is_bad_offset, can_open, entry_of}
 use Rattle.pt_req.specs.declared.begun.BegunSession.{BegunSession}
-use Rattle.pt_req.specs.declared.replies.Resolved.{Resolved}
+use Rattle.pt_session.specs.declared.reply.Resolved.{Resolved}
 use Rattle.pt_req.specs.declared.parts.looked.Looked.{Looked}
 use Rattle.pt_req.specs.declared.plan.Plan.{Plan}
 

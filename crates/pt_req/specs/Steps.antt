@@ -14,7 +14,12 @@ use Rattle.pt_host.specs.declared.reply.HostReply.TheVariants as host
 use Rattle.pt_host.specs.declared.reply.HostValue.TheVariants as value
 use Rattle.pt_session.specs.declared.form.RowForm.{RowForm}
 use Rattle.pt_session.specs.declared.form.Negotiated.{Negotiated}
+use Rattle.pt_session.specs.declared.event.KeptClaim.{KeptClaim}
+use Rattle.pt_session.specs.declared.event.NewRow.{NewRow}
+use Rattle.pt_session.specs.declared.event.NewRoot.{NewRoot}
+use Rattle.pt_session.specs.declared.event.NewHandle.{NewHandle}
 use Rattle.pt_session.specs.declared.event.KeptEvent.TheVariants as change
+use Rattle.pt_session.specs.declared.reply.Resolved.{Resolved}
 use Rattle.pt_session.specs.declared.reply.EventReply.TheVariants as event
 use Rattle.pt_iface.specs.declared.answer.Answer.{Answer}
 use Rattle.pt_iface.specs.declared.answer.Answer.TheVariants as answer
@@ -27,7 +32,6 @@ use Rattle.pt_frame.specs.declared.hold.Hold.{Hold}
 use Rattle.pt_req.specs.declared.begun.BegunSession.{BegunSession}
 use Rattle.pt_req.specs.declared.replies.Made.{Made}
 use Rattle.pt_req.specs.declared.replies.Made.TheVariants.{New, Old}
-use Rattle.pt_req.specs.declared.replies.Resolved.{Resolved}
 
 -- what hands a value on to what follows it
 abbrev pub Part : Type 0 → Type 0
@@ -60,11 +64,8 @@ cleared_in told = None
 abbrev pub clear : Part ℕ
 clear next = Asks (Changes change.Clear) (on cleared_in next)
 
-abbrev pub resolved_of : ℕ → RowForm → ObjIds → ℕ → Resolved
-resolved_of row form ids mode = record { row = row; form = form; ids = ids; mode = mode }
-
 abbrev pub resolved_in : ActReply → Option Resolved
-resolved_in (Event (event.Resolved row form ids mode)) = Some (resolved_of row form ids mode)
+resolved_in (Event (event.Resolved row)) = Some row
 resolved_in told = None
 
 -- a number is looked up in the tables: its row, which is pinned now, how its object is kept, and its ids and mode
@@ -154,12 +155,16 @@ set_xattr fd through name value flags next =
 
 -- an object's number is given once more; or it has none, and is absent
 abbrev pub claimed_in : ActReply → Option (Option ℕ)
-claimed_in (Event (event.Claimed number)) = Some (Some number)
+claimed_in (Event (event.Claimed given)) = Some (Some given.number)
 claimed_in (Event event.Absent) = Some None
 claimed_in told = None
 
+abbrev pub claim_of : ℕ → Option FileHandle → ObjIds → KeptClaim
+claim_of era handle ids = record { era = era; handle = handle; ids = ids }
+
 abbrev pub claim : BegunSession → Option FileHandle → ObjIds → Part (Option ℕ)
-claim session handle ids next = Asks (Changes (change.Claim session.era handle ids)) (on claimed_in next)
+claim session handle ids next =
+    Asks (Changes (change.Claim (claim_of session.era handle ids))) (on claimed_in next)
 
 abbrev pub taken_in : ActReply → Option (Unit {0})
 taken_in (Event event.Taken) = Some tt
@@ -183,27 +188,38 @@ draw_handle next = Asks (Changes change.DrawHandle) (on drawn_in next)
 -- the number that was inserted: the new one, or that of another request, which was faster
 abbrev pub numbered_in : ActReply → Option ℕ
 numbered_in (Event (event.Inserted number)) = Some number
-numbered_in (Event (event.Found number)) = Some number
+numbered_in (Event (event.Found given)) = Some given.number
 numbered_in told = None
+
+abbrev pub new_row_of : ℕ → ℕ → RowForm → Stat → NewRow
+new_row_of era fresh form told =
+    record { era = era; number = fresh; form = form; ids = told.ids; mode = told.mode }
 
 -- what was opened is numbered
 abbrev pub insert : BegunSession → ℕ → RowForm → Stat → Part ℕ
 insert session fresh form told next =
-    Asks (Changes (change.Insert session.era fresh form told.ids told.mode)) (on numbered_in next)
+    Asks (Changes (change.Insert (new_row_of session.era fresh form told))) (on numbered_in next)
 
 abbrev pub inserted_in : ActReply → Option (Unit {0})
 inserted_in (Event (event.Inserted number)) = Some tt
 inserted_in told = None
 
+abbrev pub new_root_of : ℕ → RowForm → Stat → Option Negotiated → NewRoot
+new_root_of era form told agreed =
+    record { era = era; form = form; ids = told.ids; mode = told.mode; negotiated = agreed }
+
 -- what is agreed on is said with the root, or left
 abbrev pub insert_root : BegunSession → RowForm → Stat → Option Negotiated → RequestTree → RequestTree
 insert_root session form told agreed next =
-    Asks (Changes (change.InsertRoot session.era form told.ids told.mode agreed)) (on inserted_in (λ done. next))
+    Asks (Changes (change.InsertRoot (new_root_of session.era form told agreed))) (on inserted_in (λ done. next))
+
+abbrev pub new_handle_of : ℕ → ℕ → ℕ → Fd → NewHandle
+new_handle_of era handle number fd = record { era = era; handle = handle; number = number; fd = fd }
 
 -- what was opened gets its handle
 abbrev pub insert_handle : BegunSession → ℕ → ℕ → Fd → RequestTree → RequestTree
 insert_handle session handle number fd next =
-    Asks (Changes (change.InsertHandle session.era handle number fd)) (on inserted_in (λ done. next))
+    Asks (Changes (change.InsertHandle (new_handle_of session.era handle number fd))) (on inserted_in (λ done. next))
 
 abbrev pub pinned_in : ActReply → Option Fd
 pinned_in (Event (event.Pinned row fd)) = Some fd

@@ -17,7 +17,7 @@ pub use parts::{
     open_row, or_refused, placed, root_open, undone, without_fsetid,
 };
 pub use plan::{CachePolicy, Config, Plan};
-pub use replies::{Made, Resolved, ok_in};
+pub use replies::{Made, ok_in};
 pub use requests::{
     batch_forget, create, destroy, forget, init, lookup, open, opendir, read, release, root,
 };

@@ -3,6 +3,7 @@
 ghost use Rattle.std.specs.Prelude.{◌≡◌, ℕ, List, Option};
 ghost use Rattle.pt_host.specs.declared.ids.Fd.{Fd};
 ghost use Rattle.pt_host.specs.declared.stat.Stat.{Stat};
+ghost use Rattle.pt_session.specs.declared.reply.Resolved.{Resolved};
 ghost use Rattle.pt_iface.specs.declared.answer.Answer.{Answer};
 ghost use Rattle.pt_frame.specs.Machine.Walk.{Reads};
 ghost use Rattle.pt_frame.specs.Tree.{RequestTree, on};
@@ -12,22 +13,12 @@ ghost use Rattle.pt_req.specs.Steps.{stat_in, refused_in, claimed_in, taken_in, 
 ghost use Rattle.pt_req.specs.Steps.{pinned_in, done_in};
 ghost use Rattle.pt_req.specs.declared.begun.BegunSession.{BegunSession};
 ghost use Rattle.pt_req.specs.declared.replies.Made.{Made};
-ghost use Rattle.pt_req.specs.declared.replies.Resolved.{Resolved};
 
 use crate::begun::BegunSession;
 use pt_frame::{ActReply, Asked, Stop};
-use pt_host::{Errno, Fd, HostReply, HostValue, ObjIds, Stat};
+use pt_host::{Errno, Fd, HostReply, HostValue, Stat};
 use pt_iface::Answer;
-use pt_session::{EventReply, RowForm};
-
-/// What resolving a number tells: its row, which is pinned now, how its object is kept, and its ids and mode.
-#[derive(Drop)]
-pub struct Resolved {
-    pub row: u64,
-    pub form: RowForm,
-    pub ids: ObjIds,
-    pub mode: u32,
-}
+use pt_session::{EventReply, Resolved};
 
 /// What came of a call that makes a file.
 #[derive(Clone, Copy)]
@@ -68,19 +59,7 @@ pub fn resolved_in<'a>(reply: &'a ActReply) -> Asked<'a, Resolved>
         Reads told at at result (on resolved_in next reply.now) next }
 {
     match reply {
-        ActReply::Event(
-            EventReply::Resolved {
-                row,
-                form,
-                ids,
-                mode,
-            },
-        ) => Ok(Resolved {
-            row: *row,
-            form: form.copy(),
-            ids: *ids,
-            mode: *mode,
-        }),
+        ActReply::Event(EventReply::Resolved(resolved)) => Ok(resolved.copy()),
         _ => Err(Stop::Refuses(reply)),
     }
 }
@@ -150,7 +129,7 @@ pub fn claimed_in<'a>(reply: &'a ActReply) -> Asked<'a, Option<u64>>
         Reads told at at result (on claimed_in next reply.now) next }
 {
     match reply {
-        ActReply::Event(EventReply::Claimed { number }) => Ok(Some(*number)),
+        ActReply::Event(EventReply::Claimed(given)) => Ok(Some(given.number)),
         ActReply::Event(EventReply::Absent) => Ok(None),
         _ => Err(Stop::Refuses(reply)),
     }
@@ -185,7 +164,7 @@ pub fn numbered_in<'a>(reply: &'a ActReply) -> Asked<'a, u64>
 {
     match reply {
         ActReply::Event(EventReply::Inserted { number }) => Ok(*number),
-        ActReply::Event(EventReply::Found { number }) => Ok(*number),
+        ActReply::Event(EventReply::Found(given)) => Ok(given.number),
         _ => Err(Stop::Refuses(reply)),
     }
 }

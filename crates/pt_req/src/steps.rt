@@ -5,6 +5,7 @@ ghost use Rattle.std.specs.Option.{option_copied};
 ghost use Rattle.pt_host.specs.Call.{call_of};
 ghost use Rattle.pt_host.specs.declared.ids.Fd.{Fd};
 ghost use Rattle.pt_host.specs.declared.stat.Stat.{Stat};
+ghost use Rattle.pt_session.specs.declared.reply.Resolved.{Resolved};
 ghost use Rattle.pt_iface.specs.declared.answer.Answer.{Answer};
 ghost use Rattle.pt_frame.specs.Machine.Walk.{HasBytes, Reads, bytes_in};
 ghost use Rattle.pt_frame.specs.Tree.{RequestTree};
@@ -13,17 +14,16 @@ ghost use Rattle.pt_req.specs.Steps.{make_at, stat, read_at, set_xattr, claim, t
 ghost use Rattle.pt_req.specs.Steps.{insert, insert_root, insert_handle, pin_handle, forget_all, release_handle};
 ghost use Rattle.pt_req.specs.declared.begun.BegunSession.{BegunSession};
 ghost use Rattle.pt_req.specs.declared.replies.Made.{Made};
-ghost use Rattle.pt_req.specs.declared.replies.Resolved.{Resolved};
 
 use crate::begun::BegunSession;
 use crate::replies::{
-    Made, Resolved, began_in, claimed_in, cleared_in, done_in, drawn_in, fd_in, inserted_in,
-    made_in, numbered_in, ok_in, pinned_in, refused_in, resolved_in, stat_in, taken_in, tried_in,
+    Made, began_in, claimed_in, cleared_in, done_in, drawn_in, fd_in, inserted_in, made_in,
+    numbered_in, ok_in, pinned_in, refused_in, resolved_in, stat_in, taken_in, tried_in,
 };
 use pt_frame::{Act, ActReply, Asked, Heard, Hold, Stop, ask, bares, open};
 use pt_host::{Bytes, Fd, FileHandle, HostOp, HostReply, HostValue, ObjIds, OpenFlags, Stat};
 use pt_iface::{Answer, ForgetList};
-use pt_session::{Event, Negotiated, RowForm};
+use pt_session::{Claim, Event, Negotiated, NewHandle, NewRoot, NewRow, Resolved, RowForm};
 
 /// The session goes on, as it stands.
 pub fn begin<'a>(told: &'a [Heard], at: &mut usize) -> Asked<'a, BegunSession>
@@ -213,8 +213,12 @@ pub fn claim<'a>(
     ensures { (next : Option ℕ → RequestTree) →
         Reads told.now at.old at.new result (claim session (option_copied handle.entry) ids next) next }
 {
-    let era = session.era;
-    let reply = ask(told, at, Act::Event(Event::Claim { era, handle, ids }))?;
+    let claim = Claim {
+        era: session.era,
+        handle,
+        ids,
+    };
+    let reply = ask(told, at, Act::Event(Event::Claim(claim)))?;
     claimed_in(reply)
 }
 
@@ -254,14 +258,14 @@ pub fn insert<'a>(
     ensures { (next : ℕ → RequestTree) →
         Reads told.now at.old at.new result (insert session fresh form stat next) next }
 {
-    let act = Act::Event(Event::Insert {
+    let new = NewRow {
         era: session.era,
         number: fresh,
         form,
         ids: stat.ids,
         mode: stat.mode,
-    });
-    let reply = ask(told, at, act)?;
+    };
+    let reply = ask(told, at, Act::Event(Event::Insert(new)))?;
     numbered_in(reply)
 }
 
@@ -277,14 +281,14 @@ pub fn insert_root<'a>(
     ensures { (next : RequestTree) →
         Reads told.now at.old at.new result (insert_root session form stat agreed next) (λ done. next) }
 {
-    let act = Act::Event(Event::InsertRoot {
+    let new = NewRoot {
         era: session.era,
         form,
         ids: stat.ids,
         mode: stat.mode,
         negotiated: agreed,
-    });
-    let reply = ask(told, at, act)?;
+    };
+    let reply = ask(told, at, Act::Event(Event::InsertRoot(new)))?;
     inserted_in(reply)
 }
 
@@ -300,13 +304,13 @@ pub fn insert_handle<'a>(
     ensures { (next : RequestTree) →
         Reads told.now at.old at.new result (insert_handle session handle number fd next) (λ done. next) }
 {
-    let act = Act::Event(Event::InsertHandle {
+    let new = NewHandle {
         era: session.era,
         handle,
         number,
         fd,
-    });
-    let reply = ask(told, at, act)?;
+    };
+    let reply = ask(told, at, Act::Event(Event::InsertHandle(new)))?;
     inserted_in(reply)
 }
 

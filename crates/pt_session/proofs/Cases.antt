@@ -14,7 +14,7 @@ use Rattle.pt_session.specs.Outcome.{last_u64, RefusesEvent}
 use Rattle.pt_session.specs.Effect.{IsFree}
 use Rattle.pt_session.specs.Happens.{Happens, ForgetsOne, ForgetsAll, Clears, TakesFirst, with_row, new_row}
 use Rattle.pt_session.specs.Happens.{with_handle}
-use Rattle.pt_session.specs.Happens.{new_handle, agreed}
+use Rattle.pt_session.specs.Happens.{new_handle, agreed, given_of, resolved_of}
 use Rattle.pt_session.specs.declared.event.KeptEvent.TheVariants as change
 use Rattle.pt_session.specs.declared.reply.EventRefusal.{EventRefusal}
 use Rattle.pt_session.specs.declared.reply.EventRefusal.TheVariants.{NotLive, Overtaken, NoSlot, Last, Live, Memory}
@@ -50,11 +50,11 @@ gives_pin kind tables after serial closings row has (inr h) = let some = has.1 i
 
 -- why it is refused: what is overtaken began in another era, and nothing is there to give back
 abbrev pub Reason : Tables → Change → EventRefusal → Type 0
-Reason tables (change.Claim era handle ids) Overtaken = era ≢ tables.era
-Reason tables (change.Insert era number form ids mode) Overtaken = era ≢ tables.era
-Reason tables (change.InsertRoot era form ids mode negotiated) Overtaken = era ≢ tables.era
+Reason tables (change.Claim claim) Overtaken = claim.era ≢ tables.era
+Reason tables (change.Insert new) Overtaken = new.era ≢ tables.era
+Reason tables (change.InsertRoot new) Overtaken = new.era ≢ tables.era
 Reason tables (change.GiveBack era number) Overtaken = era ≢ tables.era
-Reason tables (change.InsertHandle era handle number fd) Overtaken = era ≢ tables.era
+Reason tables (change.InsertHandle new) Overtaken = new.era ≢ tables.era
 Reason tables (change.Unpin serial) NotLive = NoRow tables (IsPinned number_rows serial)
 Reason tables (change.UnpinHandle serial) NotLive = NoHandle tables (IsPinned handle_rows serial)
 Reason tables change.GiveFd NotLive = tables.limit ≤ tables.slots
@@ -66,15 +66,15 @@ Case tables asked (reply.Refused refusal) after =
     IsOneOf refusal (refusals asked) × (after ≡ tables) × Reason tables asked refusal
 Case tables change.Begin (reply.Began era negotiated) after =
     (era ≡ tables.era) × (negotiated ≡ tables.negotiated) × (after ≡ tables)
-Case tables (change.Resolve number) (reply.Resolved serial form ids mode) after =
-    (row : Row) × HasNumber number row × (row.serial ≡ serial) × (row.form ≡ form) × (row.ids ≡ ids) × (row.mode ≡
-    mode)
+Case tables (change.Resolve number) (reply.Resolved resolved) after =
+    (row : Row) × HasNumber number row × (row.serial ≡ resolved.row) × (row.form ≡ resolved.form)
+    × (row.ids ≡ resolved.ids) × (row.mode ≡ resolved.mode)
     × IsRow tables row × ChangesRow number_rows tables row (record row { pins = row.pins + 1 }) after
 Case tables (change.Unpin serial) (reply.Done closings) after = GivesPin number_rows tables serial closings after
-Case tables (change.Claim era handle ids) (reply.Claimed number) after =
-    (era ≡ tables.era) × GivenAgain tables ids number after
-Case tables (change.Claim era handle ids) reply.Absent after =
-    (era ≡ tables.era) × NoRow tables (HasIds ids) × (after ≡ tables)
+Case tables (change.Claim claim) (reply.Claimed given) after =
+    (claim.era ≡ tables.era) × GivenAgain tables claim.ids given.number after
+Case tables (change.Claim claim) reply.Absent after =
+    (claim.era ≡ tables.era) × NoRow tables (HasIds claim.ids) × (after ≡ tables)
 Case tables change.TakeFd reply.Taken after =
     (slots : ℕ) × (tables.slots ≡ suc slots) × (after ≡ record tables { slots = slots })
 Case tables change.GiveFd reply.Given after =
@@ -82,14 +82,14 @@ Case tables change.GiveFd reply.Given after =
 Case tables change.DrawNode (reply.Drawn number) after =
     (number ≡ tables.next_number) × (tables.next_number < last_u64)
     × (after ≡ record tables { next_number = tables.next_number + 1 })
-Case tables (change.Insert era number form ids mode) (reply.Inserted given) after =
-    (era ≡ tables.era) × IsFree tables number ids × (tables.next_row < last_u64) × (given ≡ number)
-    × (after ≡ with_row tables (new_row tables number form ids mode 1))
-Case tables (change.Insert era number form ids mode) (reply.Found given) after =
-    (era ≡ tables.era) × GivenAgain tables ids given after
-Case tables (change.InsertRoot era form ids mode negotiated) (reply.Inserted given) after =
-    (era ≡ tables.era) × IsFree tables 1 ids × (tables.next_row < last_u64) × (given ≡ 1)
-    × (after ≡ agreed negotiated (with_row tables (new_row tables 1 form ids mode 2)))
+Case tables (change.Insert new) (reply.Inserted given) after =
+    (new.era ≡ tables.era) × IsFree tables new.number new.ids × (tables.next_row < last_u64) × (given ≡ new.number)
+    × (after ≡ with_row tables (new_row tables new.number new.form new.ids new.mode 1))
+Case tables (change.Insert new) (reply.Found given) after =
+    (new.era ≡ tables.era) × GivenAgain tables new.ids given.number after
+Case tables (change.InsertRoot new) (reply.Inserted given) after =
+    (new.era ≡ tables.era) × IsFree tables 1 new.ids × (tables.next_row < last_u64) × (given ≡ 1)
+    × (after ≡ agreed new.negotiated (with_row tables (new_row tables 1 new.form new.ids new.mode 2)))
 Case tables (change.Forget list) (reply.Done closings) after = ForgetsAll tables list closings after
 Case tables (change.GiveBack era number) (reply.Done closings) after =
     (era ≡ tables.era) × ((row : Row) × IsRow tables row × HasNumber number row)
@@ -97,9 +97,9 @@ Case tables (change.GiveBack era number) (reply.Done closings) after =
 Case tables change.DrawHandle (reply.Drawn handle) after =
     (handle ≡ tables.next_handle) × (tables.next_handle < last_u64)
     × (after ≡ record tables { next_handle = tables.next_handle + 1 })
-Case tables (change.InsertHandle era handle number fd) (reply.Inserted given) after =
-    (era ≡ tables.era) × NoHandle tables (HasHandle handle) × (tables.next_row < last_u64) × (given ≡ handle)
-    × (after ≡ with_handle tables (new_handle tables handle number fd))
+Case tables (change.InsertHandle new) (reply.Inserted given) after =
+    (new.era ≡ tables.era) × NoHandle tables (HasHandle new.handle) × (tables.next_row < last_u64)
+    × (given ≡ new.handle) × (after ≡ with_handle tables (new_handle tables new.handle new.number new.fd))
 Case tables (change.PinHandle handle number) (reply.Pinned serial fd) after =
     (row : HandleRow) × IsHandle handle number row × (row.serial ≡ serial) × (row.fd ≡ fd) × IsHandleRow tables row
     × ChangesRow handle_rows tables row (record row { pins = row.pins + 1 }) after
@@ -109,8 +109,8 @@ Case tables (change.Release handle number) (reply.Done closings) after =
     (row : HandleRow) × IsHandle handle number row × Dies handle_rows tables row closings after
 Case tables change.Clear (reply.Cleared era closings) after =
     (tables.era < last_u64) × Clears tables closings after × (era ≡ tables.era + 1)
-Case tables change.TakeClosing (reply.Closing fd slot) after =
-    (closing : List Closing) × (tables.closing ≡ record { fd = fd; slot = slot } ∷ closing)
+Case tables change.TakeClosing (reply.Closing first) after =
+    (closing : List Closing) × (tables.closing ≡ first ∷ closing)
     × (after ≡ record tables { closing = closing })
 Case tables asked told after = ⊥
 
@@ -151,7 +151,7 @@ cases tables after (change.Resolve number) told (inl none) =
     refused tables after (change.Resolve number) told NotLive tt tt none.1
 cases tables after (change.Resolve number) told (inr found) = let row = found.0 in elim found.3 [
   | inl on ↦ told_as tables after (change.Resolve number) told
-      (reply.Resolved row.serial row.form row.ids row.mode) on.1.0
+      (reply.Resolved (resolved_of row)) on.1.0
       (row, found.2, refl, refl, refl, refl, found.1, on.1.1)
   | inr last ↦ refused tables after (change.Resolve number) told Last tt tt last.1
 ]
@@ -160,14 +160,14 @@ cases tables after (change.Unpin serial) told (inl none) =
 cases tables after (change.Unpin serial) told (inr found) = let done = found.3 in
     told_as tables after (change.Unpin serial) told (reply.Done done.0) done.1
     (gives_pin number_rows tables after serial done.0 found.0 found.2 done.2)
-cases tables after (change.Claim era handle ids) told (inr over) =
-    refused tables after (change.Claim era handle ids) told Overtaken tt over.0 over.1
-cases tables after (change.Claim era handle ids) told (inl on) = elim on.1 [
-  | inl none ↦ told_as tables after (change.Claim era handle ids) told reply.Absent none.1.0 (on.0, none.0, none.1.1)
+cases tables after (change.Claim claim) told (inr over) =
+    refused tables after (change.Claim claim) told Overtaken tt over.0 over.1
+cases tables after (change.Claim claim) told (inl on) = elim on.1 [
+  | inl none ↦ told_as tables after (change.Claim claim) told reply.Absent none.1.0 (on.0, none.0, none.1.1)
   | inr found ↦ let row = found.0 in elim found.3 [
-    | inl again ↦ told_as tables after (change.Claim era handle ids) told (reply.Claimed row.number) again.1.0
+    | inl again ↦ told_as tables after (change.Claim claim) told (reply.Claimed (given_of row)) again.1.0
         (on.0, (row, found.2, refl, found.1, again.1.1))
-    | inr last ↦ refused tables after (change.Claim era handle ids) told Last tt tt last.1
+    | inr last ↦ refused tables after (change.Claim claim) told Last tt tt last.1
   ]
 ]
 cases tables after change.TakeFd told (inl on) =
@@ -182,41 +182,41 @@ cases tables after change.DrawNode told (inl on) =
     told_as tables after change.DrawNode told (reply.Drawn tables.next_number) on.1.0
     (refl, on.0, on.1.1)
 cases tables after change.DrawNode told (inr last) = refused tables after change.DrawNode told Last tt tt last.1
-cases tables after (change.Insert era number form ids mode) told (inr over) =
-    refused tables after (change.Insert era number form ids mode) told Overtaken tt over.0 over.1
-cases tables after (change.Insert era number form ids mode) told (inl on) = elim on.1 [
+cases tables after (change.Insert new) told (inr over) =
+    refused tables after (change.Insert new) told Overtaken tt over.0 over.1
+cases tables after (change.Insert new) told (inl on) = elim on.1 [
   | inl none ↦ elim none.1 [
     | inl free ↦ elim free.1 [
       | inl adds ↦ elim adds.1 [
-        | inl added ↦ told_as tables after (change.Insert era number form ids mode) told (reply.Inserted number)
+        | inl added ↦ told_as tables after (change.Insert new) told (reply.Inserted new.number)
             added.0
             (on.0, (none.0, free.0), adds.0, refl, added.1)
-        | inr memory ↦ refused tables after (change.Insert era number form ids mode) told Memory tt tt memory
+        | inr memory ↦ refused tables after (change.Insert new) told Memory tt tt memory
       ]
-      | inr last ↦ refused tables after (change.Insert era number form ids mode) told Last tt tt last.1
+      | inr last ↦ refused tables after (change.Insert new) told Last tt tt last.1
     ]
-    | inr there ↦ refused tables after (change.Insert era number form ids mode) told Live tt tt there.3
+    | inr there ↦ refused tables after (change.Insert new) told Live tt tt there.3
   ]
   | inr found ↦ let row = found.0 in elim found.3 [
-    | inl again ↦ told_as tables after (change.Insert era number form ids mode) told (reply.Found row.number)
+    | inl again ↦ told_as tables after (change.Insert new) told (reply.Found (given_of row))
         again.1.0
         (on.0, (row, found.2, refl, found.1, again.1.1))
-    | inr last ↦ refused tables after (change.Insert era number form ids mode) told Last tt tt last.1
+    | inr last ↦ refused tables after (change.Insert new) told Last tt tt last.1
   ]
 ]
-cases tables after (change.InsertRoot era form ids mode negotiated) told (inr over) =
-    refused tables after (change.InsertRoot era form ids mode negotiated) told Overtaken tt over.0 over.1
-cases tables after (change.InsertRoot era form ids mode negotiated) told (inl on) = elim on.1 [
+cases tables after (change.InsertRoot new) told (inr over) =
+    refused tables after (change.InsertRoot new) told Overtaken tt over.0 over.1
+cases tables after (change.InsertRoot new) told (inl on) = elim on.1 [
   | inl free ↦ elim free.1 [
     | inl adds ↦ elim adds.1 [
-      | inl added ↦ told_as tables after (change.InsertRoot era form ids mode negotiated) told (reply.Inserted 1)
+      | inl added ↦ told_as tables after (change.InsertRoot new) told (reply.Inserted 1)
           added.0
-          (on.0, is_free tables 1 ids free.0, adds.0, refl, added.1)
-      | inr memory ↦ refused tables after (change.InsertRoot era form ids mode negotiated) told Memory tt tt memory
+          (on.0, is_free tables 1 new.ids free.0, adds.0, refl, added.1)
+      | inr memory ↦ refused tables after (change.InsertRoot new) told Memory tt tt memory
     ]
-    | inr last ↦ refused tables after (change.InsertRoot era form ids mode negotiated) told Last tt tt last.1
+    | inr last ↦ refused tables after (change.InsertRoot new) told Last tt tt last.1
   ]
-  | inr there ↦ refused tables after (change.InsertRoot era form ids mode negotiated) told Live tt tt there.3
+  | inr there ↦ refused tables after (change.InsertRoot new) told Live tt tt there.3
 ]
 cases tables after (change.Forget list) told h =
     told_as tables after (change.Forget list) told (reply.Done h.0) h.1 h.2
@@ -232,19 +232,19 @@ cases tables after change.DrawHandle told (inl on) =
     told_as tables after change.DrawHandle told (reply.Drawn tables.next_handle) on.1.0
     (refl, on.0, on.1.1)
 cases tables after change.DrawHandle told (inr last) = refused tables after change.DrawHandle told Last tt tt last.1
-cases tables after (change.InsertHandle era handle number fd) told (inr over) =
-    refused tables after (change.InsertHandle era handle number fd) told Overtaken tt over.0 over.1
-cases tables after (change.InsertHandle era handle number fd) told (inl on) = elim on.1 [
+cases tables after (change.InsertHandle new) told (inr over) =
+    refused tables after (change.InsertHandle new) told Overtaken tt over.0 over.1
+cases tables after (change.InsertHandle new) told (inl on) = elim on.1 [
   | inl free ↦ elim free.1 [
     | inl adds ↦ elim adds.1 [
-      | inl added ↦ told_as tables after (change.InsertHandle era handle number fd) told (reply.Inserted handle)
+      | inl added ↦ told_as tables after (change.InsertHandle new) told (reply.Inserted new.handle)
           added.0
           (on.0, free.0, adds.0, refl, added.1)
-      | inr memory ↦ refused tables after (change.InsertHandle era handle number fd) told Memory tt tt memory
+      | inr memory ↦ refused tables after (change.InsertHandle new) told Memory tt tt memory
     ]
-    | inr last ↦ refused tables after (change.InsertHandle era handle number fd) told Last tt tt last.1
+    | inr last ↦ refused tables after (change.InsertHandle new) told Last tt tt last.1
   ]
-  | inr there ↦ refused tables after (change.InsertHandle era handle number fd) told Live tt tt there.3
+  | inr there ↦ refused tables after (change.InsertHandle new) told Live tt tt there.3
 ]
 cases tables after (change.PinHandle handle number) told (inl none) =
     refused tables after (change.PinHandle handle number) told NotLive tt tt none.1

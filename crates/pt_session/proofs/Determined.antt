@@ -4,6 +4,7 @@ use Rattle.pt_host.specs.declared.ids.ObjIds.{ObjIds}
 use Rattle.pt_session.specs.Change.{Change}
 use Rattle.pt_session.specs.declared.event.KeptEvent.TheVariants as change
 use Rattle.pt_session.specs.declared.reply.EventRefusal.TheVariants.{NotLive, NoSlot, Live, Memory}
+use Rattle.pt_session.specs.declared.reply.GivenNumber.{GivenNumber}
 use Rattle.pt_session.specs.declared.reply.EventReply.{EventReply}
 use Rattle.pt_session.specs.declared.reply.EventReply.TheVariants as reply
 use Rattle.pt_session.specs.Tables.{Closing, Tables, AreApart, AreHandlesApart, Agree, HasNumber}
@@ -12,7 +13,7 @@ use Rattle.pt_session.specs.Rows.{Kind, number_rows, handle_rows, IsPinned, Chan
 use Rattle.pt_session.specs.Outcome.{EventOutcome, Leaves, Replies, Closes, UnlessRow, IfRow, Below, Pins}
 use Rattle.pt_session.specs.Outcome.{Adds}
 use Rattle.pt_session.specs.Happens.{Happens, Falls, ForgetsAll, Clears, GivesAgain, TakesFirst, with_row, new_row}
-use Rattle.pt_session.specs.Happens.{with_handle, new_handle, agreed}
+use Rattle.pt_session.specs.Happens.{with_handle, new_handle, agreed, given_of, resolved_of}
 use Rattle.pt_session.proofs.Alone.{none_taken}
 use Rattle.pt_session.proofs.Effects.{Makes, numbers_make, handles_make}
 use Rattle.pt_session.proofs.Outcomes.{Alone, IsApart, numbers_apart, handles_apart, leaves_alone, tells_alone}
@@ -22,15 +23,15 @@ use Rattle.pt_session.proofs.Endings.{number_one, ids_one, handle_one, is_handle
 use Rattle.pt_session.proofs.Endings.{unpins_one}
 use Rattle.pt_session.proofs.Endings.{falls_one, forgets_all_one, clears_one}
 
-again_alone : (tables : Tables) (ids : ObjIds) (tell : ℕ → EventReply) (On : EventOutcome) → Agree tables → Alone On →
-    Alone (GivesAgain tables ids tell On)
+again_alone : (tables : Tables) (ids : ObjIds) (tell : GivenNumber → EventReply) (On : EventOutcome) →
+    Agree tables → Alone On → Alone (GivesAgain tables ids tell On)
 again_alone tables ids tell On agree alone =
     row_alone number_rows AreApart numbers_apart tables agree (HasIds ids) (ids_one ids) On
-    (λ row. Below tables row.count (Leaves (tell row.number)
+    (λ row. Below tables row.count (Leaves (tell (given_of row))
     (ChangesRow number_rows tables row (record row { count = row.count + 1 })))) alone (λ row.
-    below_alone tables row.count (Leaves (tell row.number)
+    below_alone tables row.count (Leaves (tell (given_of row))
     (ChangesRow number_rows tables row (record row { count = row.count + 1 })))
-    (leaves_alone (tell row.number) (ChangesRow number_rows tables row (record row { count = row.count + 1 }))
+    (leaves_alone (tell (given_of row)) (ChangesRow number_rows tables row (record row { count = row.count + 1 }))
     (changes_one number_rows AreApart numbers_apart tables agree row _)))
 
 -- neither number 1 nor the object has two rows, but each may have one
@@ -63,20 +64,21 @@ cleared_alone tables agree told told' after after' w w' h k =
 first_alone : (tables : Tables) (list : List Closing) → Alone (TakesFirst tables list)
 first_alone tables [] = tells_alone (reply.Refused NotLive) tables
 first_alone tables (first ∷ closing) =
-    tells_alone (reply.Closing first.fd first.slot) (record tables { closing = closing })
+    tells_alone (reply.Closing first) (record tables { closing = closing })
 
 pub alone : (tables : Tables) (asked : Change) → Agree tables → Alone (Happens tables asked)
 alone tables change.Begin agree = tells_alone (reply.Began tables.era tables.negotiated) tables
 alone tables (change.Resolve number) agree =
     unless_row number_rows AreApart numbers_apart tables agree (HasNumber number) (number_one number) NotLive
-    (λ row. Pins tables number_rows row (reply.Resolved row.serial row.form row.ids row.mode))
+    (λ row. Pins tables number_rows row (reply.Resolved (resolved_of row)))
     (λ row. pins_alone number_rows AreApart numbers_apart tables agree row
-    (reply.Resolved row.serial row.form row.ids row.mode))
+    (reply.Resolved (resolved_of row)))
 alone tables (change.Unpin serial) agree =
     unpins_alone number_rows AreApart numbers_apart numbers_make tables serial agree
-alone tables (change.Claim era handle ids) agree =
-    era_alone tables era (GivesAgain tables ids (λ number. reply.Claimed number) (Replies reply.Absent tables))
-    (again_alone tables ids (λ number. reply.Claimed number) (Replies reply.Absent tables) agree
+alone tables (change.Claim claim) agree =
+    era_alone tables claim.era
+    (GivesAgain tables claim.ids (λ given. reply.Claimed given) (Replies reply.Absent tables))
+    (again_alone tables claim.ids (λ given. reply.Claimed given) (Replies reply.Absent tables) agree
     (tells_alone reply.Absent tables))
 alone tables change.TakeFd agree =
     unless_alone tables (0 < tables.slots) NoSlot (Replies reply.Taken (record tables { slots = tables.slots - 1 }))
@@ -88,18 +90,18 @@ alone tables change.GiveFd agree =
 alone tables change.DrawNode agree = below_alone tables tables.next_number
     (Replies (reply.Drawn tables.next_number) (record tables { next_number = tables.next_number + 1 }))
     (tells_alone (reply.Drawn tables.next_number) (record tables { next_number = tables.next_number + 1 }))
-alone tables (change.Insert era number form ids mode) agree =
-    let left = with_row tables (new_row tables number form ids mode 1) in
-    let On = IfRow tables number_rows (HasNumber number) Live (Adds tables (reply.Inserted number) left) in
-    era_alone tables era (GivesAgain tables ids (λ given. reply.Found given) On)
-    (again_alone tables ids (λ given. reply.Found given) On agree
-    (if_row number_rows AreApart numbers_apart tables agree (HasNumber number) (number_one number) Live
-    (Adds tables (reply.Inserted number) left) (adds_alone tables (reply.Inserted number) left)))
-alone tables (change.InsertRoot era form ids mode negotiated) agree =
-    let left = agreed negotiated (with_row tables (new_row tables 1 form ids mode 2)) in
-    era_alone tables era (IfRow tables number_rows (λ row. HasNumber 1 row ⊎ HasIds ids row) Live
+alone tables (change.Insert new) agree =
+    let left = with_row tables (new_row tables new.number new.form new.ids new.mode 1) in
+    let On = IfRow tables number_rows (HasNumber new.number) Live (Adds tables (reply.Inserted new.number) left) in
+    era_alone tables new.era (GivesAgain tables new.ids (λ given. reply.Found given) On)
+    (again_alone tables new.ids (λ given. reply.Found given) On agree
+    (if_row number_rows AreApart numbers_apart tables agree (HasNumber new.number) (number_one new.number) Live
+    (Adds tables (reply.Inserted new.number) left) (adds_alone tables (reply.Inserted new.number) left)))
+alone tables (change.InsertRoot new) agree =
+    let left = agreed new.negotiated (with_row tables (new_row tables 1 new.form new.ids new.mode 2)) in
+    era_alone tables new.era (IfRow tables number_rows (λ row. HasNumber 1 row ⊎ HasIds new.ids row) Live
     (Adds tables (reply.Inserted 1) left))
-    (taken_one tables ids (Adds tables (reply.Inserted 1) left) (adds_alone tables (reply.Inserted 1) left))
+    (taken_one tables new.ids (Adds tables (reply.Inserted 1) left) (adds_alone tables (reply.Inserted 1) left))
 alone tables (change.Forget list) agree =
     closes_alone (ForgetsAll tables list) (forgets_all_one list tables agree)
 alone tables (change.GiveBack era number) agree =
@@ -111,11 +113,12 @@ alone tables (change.GiveBack era number) agree =
 alone tables change.DrawHandle agree = below_alone tables tables.next_handle
     (Replies (reply.Drawn tables.next_handle) (record tables { next_handle = tables.next_handle + 1 }))
     (tells_alone (reply.Drawn tables.next_handle) (record tables { next_handle = tables.next_handle + 1 }))
-alone tables (change.InsertHandle era handle number fd) agree =
-    let left = with_handle tables (new_handle tables handle number fd) in
-    era_alone tables era (IfRow tables handle_rows (HasHandle handle) Live (Adds tables (reply.Inserted handle) left))
-    (if_row handle_rows AreHandlesApart handles_apart tables agree (HasHandle handle) (handle_one handle) Live
-    (Adds tables (reply.Inserted handle) left) (adds_alone tables (reply.Inserted handle) left))
+alone tables (change.InsertHandle new) agree =
+    let left = with_handle tables (new_handle tables new.handle new.number new.fd) in
+    era_alone tables new.era
+    (IfRow tables handle_rows (HasHandle new.handle) Live (Adds tables (reply.Inserted new.handle) left))
+    (if_row handle_rows AreHandlesApart handles_apart tables agree (HasHandle new.handle) (handle_one new.handle) Live
+    (Adds tables (reply.Inserted new.handle) left) (adds_alone tables (reply.Inserted new.handle) left))
 alone tables (change.PinHandle handle number) agree =
     unless_row handle_rows AreHandlesApart handles_apart tables agree (IsHandle handle number)
     (is_handle_one handle number) NotLive (λ row. Pins tables handle_rows row (reply.Pinned row.serial row.fd))

@@ -126,32 +126,32 @@ pub case_effects : (tables after : Tables) (asked : Change) (told : EventReply) 
     Effects tables after
 case_effects tables after asked (reply.Refused refusal) h = one (nothing h.1)
 case_effects tables after change.Begin (reply.Began era negotiated) h = one (nothing h.2)
-case_effects tables after (change.Resolve number) (reply.Resolved serial form ids mode) h =
+case_effects tables after (change.Resolve number) (reply.Resolved resolved) h =
     one (numbers_make.repins tables after h.0 (h.0.pins + 1) (λ d m. omega arith) h.7)
 case_effects tables after (change.Unpin serial) (reply.Done closings) h =
     one (unpins number_rows numbers_make tables after serial closings h)
-case_effects tables after (change.Claim era handle ids) (reply.Claimed number) h = one (again tables after ids number
-    h.1)
-case_effects tables after (change.Claim era handle ids) reply.Absent h = one (nothing h.2)
+case_effects tables after (change.Claim claim) (reply.Claimed given) h =
+    one (again tables after claim.ids given.number h.1)
+case_effects tables after (change.Claim claim) reply.Absent h = one (nothing h.2)
 case_effects tables after change.TakeFd reply.Taken h =
     one (counted h.0 tables.next_number (λ l. omega (arith, h.1)) (omega arith) h.2)
 case_effects tables after change.GiveFd reply.Given h =
     one (counted (tables.slots + 1) tables.next_number (λ l. omega (arith, h.0)) (omega arith) h.1)
 case_effects tables after change.DrawNode (reply.Drawn number) h =
     one (counted tables.slots (tables.next_number + 1) (λ l. l) (omega arith) h.2)
-case_effects tables after (change.Insert era number form ids mode) (reply.Inserted given) h =
-    one (adds tables after number form ids mode 1 None (omega arith) h.1 h.4)
-case_effects tables after (change.Insert era number form ids mode) (reply.Found given) h =
-    one (again tables after ids given h.1)
-case_effects tables after (change.InsertRoot era form ids mode negotiated) (reply.Inserted given) h =
-    one (adds tables after 1 form ids mode 2 negotiated (omega arith) h.1 h.4)
+case_effects tables after (change.Insert new) (reply.Inserted given) h =
+    one (adds tables after new.number new.form new.ids new.mode 1 None (omega arith) h.1 h.4)
+case_effects tables after (change.Insert new) (reply.Found given) h =
+    one (again tables after new.ids given.number h.1)
+case_effects tables after (change.InsertRoot new) (reply.Inserted given) h =
+    one (adds tables after 1 new.form new.ids new.mode 2 new.negotiated (omega arith) h.1 h.4)
 case_effects tables after (change.Forget list) (reply.Done closings) h = forgets_all tables after list closings h
 case_effects tables after (change.GiveBack era number) (reply.Done closings) h =
     one (forgets_one tables after number 1 closings h.2)
 case_effects tables after change.DrawHandle (reply.Drawn handle) h = one (drawn (tables.next_handle + 1) (omega arith)
     h.2)
-case_effects tables after (change.InsertHandle era handle number fd) (reply.Inserted given) h =
-    one (handle_added (new_handle tables handle number fd)
+case_effects tables after (change.InsertHandle new) (reply.Inserted given) h =
+    one (handle_added (new_handle tables new.handle new.number new.fd)
     (record { serial = refl; live = refl; pins = refl; free = h.1 }) h.4)
 case_effects tables after (change.PinHandle handle number) (reply.Pinned serial fd) h =
     one (handles_make.repins tables after h.0 (h.0.pins + 1) (λ d m. omega arith) h.5)
@@ -160,7 +160,7 @@ case_effects tables after (change.UnpinHandle serial) (reply.Done closings) h =
 case_effects tables after (change.Release handle number) (reply.Done closings) h =
     one (dies handle_rows handles_make tables after h.0 closings h.2)
 case_effects tables after change.Clear (reply.Cleared era closings) h = clears tables after closings h.1
-case_effects tables after change.TakeClosing (reply.Closing fd slot) h = one (shut _ h.0 h.1 h.2)
+case_effects tables after change.TakeClosing (reply.Closing first) h = one (shut _ h.0 h.1 h.2)
 case_effects tables after _ _ h = absurd h
 
 pub effects : (tables after : Tables) (asked : Change) (told : EventReply) → Happens tables asked told after →

@@ -22,25 +22,25 @@ answers : (tables after : Tables) (asked : Change) (told : EventReply) → Case 
     IsReplyFor asked told
 answers tables after asked (reply.Refused refusal) h = h.0
 answers tables after change.Begin (reply.Began era negotiated) h = tt
-answers tables after (change.Resolve number) (reply.Resolved serial form ids mode) h = tt
+answers tables after (change.Resolve number) (reply.Resolved resolved) h = tt
 answers tables after (change.Unpin serial) (reply.Done closings) h = tt
-answers tables after (change.Claim era handle ids) (reply.Claimed number) h = tt
-answers tables after (change.Claim era handle ids) reply.Absent h = tt
+answers tables after (change.Claim claim) (reply.Claimed given) h = tt
+answers tables after (change.Claim claim) reply.Absent h = tt
 answers tables after change.TakeFd reply.Taken h = tt
 answers tables after change.GiveFd reply.Given h = tt
 answers tables after change.DrawNode (reply.Drawn number) h = tt
-answers tables after (change.Insert era number form ids mode) (reply.Inserted given) h = tt
-answers tables after (change.Insert era number form ids mode) (reply.Found given) h = tt
-answers tables after (change.InsertRoot era form ids mode negotiated) (reply.Inserted given) h = tt
+answers tables after (change.Insert new) (reply.Inserted given) h = tt
+answers tables after (change.Insert new) (reply.Found given) h = tt
+answers tables after (change.InsertRoot new) (reply.Inserted given) h = tt
 answers tables after (change.Forget list) (reply.Done closings) h = tt
 answers tables after (change.GiveBack era number) (reply.Done closings) h = tt
 answers tables after change.DrawHandle (reply.Drawn handle) h = tt
-answers tables after (change.InsertHandle era handle number fd) (reply.Inserted given) h = tt
+answers tables after (change.InsertHandle new) (reply.Inserted given) h = tt
 answers tables after (change.PinHandle handle number) (reply.Pinned serial fd) h = tt
 answers tables after (change.UnpinHandle serial) (reply.Done closings) h = tt
 answers tables after (change.Release handle number) (reply.Done closings) h = tt
 answers tables after change.Clear (reply.Cleared era closings) h = tt
-answers tables after change.TakeClosing (reply.Closing fd slot) h = tt
+answers tables after change.TakeClosing (reply.Closing first) h = tt
 answers tables after _ _ h = absurd h
 
 pub answered : (tables after : Tables) (asked : Change) (told : EventReply) → Happens tables asked told after →
@@ -99,28 +99,28 @@ by_case tables after asked (reply.Refused refusal) h = refused_adds asked
         refusal)
     refused_adds asked = let n : pending_in after ≡ pending_in tables = ap pending_in h.1 in omega (arith, n)
 by_case tables after change.Begin (reply.Began era negotiated) h = even tables after (ap pending_in h.2)
-by_case tables after (change.Resolve number) (reply.Resolved serial form ids mode) h =
+by_case tables after (change.Resolve number) (reply.Resolved resolved) h =
     even tables after (changes_pending number_rows numbers_kept tables after h.0 _ h.7)
 by_case tables after (change.Unpin serial) (reply.Done closings) h =
     paid tables after closings (unpins_pending number_rows numbers_kept tables after serial closings h)
-by_case tables after (change.Claim era handle ids) (reply.Claimed number) h =
+by_case tables after (change.Claim claim) (reply.Claimed given) h =
     even tables after (changes_pending number_rows numbers_kept tables after h.1.0 _ h.1.4)
-by_case tables after (change.Claim era handle ids) reply.Absent h = even tables after (ap pending_in h.2)
+by_case tables after (change.Claim claim) reply.Absent h = even tables after (ap pending_in h.2)
 by_case tables after change.TakeFd reply.Taken h = even tables after (ap pending_in h.2)
 by_case tables after change.GiveFd reply.Given h = even tables after (ap pending_in h.1)
 by_case tables after change.DrawNode (reply.Drawn number) h = even tables after (ap pending_in h.2)
-by_case tables after (change.Insert era number form ids mode) (reply.Inserted given) h =
+by_case tables after (change.Insert new) (reply.Inserted given) h =
     grown tables after (agreed_pending tables after _ None h.4)
-by_case tables after (change.Insert era number form ids mode) (reply.Found given) h =
+by_case tables after (change.Insert new) (reply.Found given) h =
     even tables after (changes_pending number_rows numbers_kept tables after h.1.0 _ h.1.4)
-by_case tables after (change.InsertRoot era form ids mode negotiated) (reply.Inserted given) h =
-    grown tables after (agreed_pending tables after _ negotiated h.4)
+by_case tables after (change.InsertRoot new) (reply.Inserted given) h =
+    grown tables after (agreed_pending tables after _ new.negotiated h.4)
 by_case tables after (change.Forget list) (reply.Done closings) h =
     paid tables after closings (forgets_all_pending tables after list closings h)
 by_case tables after (change.GiveBack era number) (reply.Done closings) h =
     paid tables after closings (forgets_one_pending tables after number 1 closings h.2)
 by_case tables after change.DrawHandle (reply.Drawn handle) h = even tables after (ap pending_in h.2)
-by_case tables after (change.InsertHandle era handle number fd) (reply.Inserted given) h =
+by_case tables after (change.InsertHandle new) (reply.Inserted given) h =
     grown tables after (let n : pending_in after ≡ length tables.rows + suc (length tables.handles) =
     ap pending_in h.4 in omega arith)
 by_case tables after (change.PinHandle handle number) (reply.Pinned serial fd) h =
@@ -131,7 +131,7 @@ by_case tables after (change.Release handle number) (reply.Done closings) h =
     paid tables after closings (dies_pending handle_rows handles_kept tables after h.0 closings h.2)
 by_case tables after change.Clear (reply.Cleared era closings) h =
     paid tables after closings (clears_pending tables after closings h.1)
-by_case tables after change.TakeClosing (reply.Closing fd slot) h = even tables after (ap pending_in h.2)
+by_case tables after change.TakeClosing (reply.Closing first) h = even tables after (ap pending_in h.2)
 by_case tables after _ _ h = absurd h
 
 pub pays : (tables after : Tables) (asked : Change) (told : EventReply) → Happens tables asked told after →

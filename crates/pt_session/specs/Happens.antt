@@ -13,6 +13,8 @@ use Rattle.pt_session.specs.declared.form.RowForm.{RowForm}
 use Rattle.pt_session.specs.declared.form.Negotiated.{Negotiated}
 use Rattle.pt_session.specs.declared.event.KeptEvent.TheVariants as change
 use Rattle.pt_session.specs.declared.reply.EventRefusal.TheVariants.{NotLive, NoSlot, Live}
+use Rattle.pt_session.specs.declared.reply.Resolved.{Resolved}
+use Rattle.pt_session.specs.declared.reply.GivenNumber.{GivenNumber}
 use Rattle.pt_session.specs.declared.reply.EventReply.{EventReply}
 use Rattle.pt_session.specs.declared.reply.EventReply.TheVariants as reply
 
@@ -77,16 +79,23 @@ abbrev pub agreed : Option Negotiated → Tables → Tables
 agreed None tables = tables
 agreed (Some negotiated) tables = record tables { negotiated = negotiated }
 
+abbrev pub given_of : Row → GivenNumber
+given_of row = record { number = row.number }
+
 -- a row of the object is given once more, unless its count is at its end; where there is none it goes on
-abbrev pub GivesAgain : Tables → ObjIds → (ℕ → EventReply) → EventOutcome → EventOutcome
+abbrev pub GivesAgain : Tables → ObjIds → (GivenNumber → EventReply) → EventOutcome → EventOutcome
 GivesAgain tables ids tell On = ByRow tables number_rows (HasIds ids) On (λ row.
-    Below tables row.count (Leaves (tell row.number)
+    Below tables row.count (Leaves (tell (given_of row))
     (ChangesRow number_rows tables row (record row { count = row.count + 1 }))))
+
+-- what resolving a number tells of its row
+abbrev pub resolved_of : Row → Resolved
+resolved_of row = record { row = row.serial; form = row.form; ids = row.ids; mode = row.mode }
 
 -- the first of what is to be closed is taken, unless nothing is
 abbrev pub TakesFirst : Tables → List Closing → EventOutcome
 TakesFirst tables [] = RefusesEvent tables NotLive
-TakesFirst tables (first ∷ closing) = Replies (reply.Closing first.fd first.slot) (record tables {
+TakesFirst tables (first ∷ closing) = Replies (reply.Closing first) (record tables {
   closing = closing;
 })
 
@@ -98,15 +107,15 @@ Happens tables change.Begin = Replies (reply.Began tables.era tables.negotiated)
 -- of the row's pins.
 Happens tables (change.Resolve number) =
     UnlessRow tables number_rows (HasNumber number) NotLive (λ row.
-    Pins tables number_rows row (reply.Resolved row.serial row.form row.ids row.mode))
+    Pins tables number_rows row (reply.Resolved (resolved_of row)))
 -- `Unpin` gives a pin of a number's row back. Refused: NotLive unless a row of that serial has a pin.
 Happens tables (change.Unpin serial) =
     UnlessRow tables number_rows (IsPinned number_rows serial) NotLive (λ row.
     Closes (Unpins number_rows tables row))
 -- `Claim` gives the number of the object's row once more, or tells that there is none. Refused: Overtaken; then,
 -- where it has a row, Last at the end of its count. Rows are found by ids alone, as long as all are in file form.
-Happens tables (change.Claim era handle ids) =
-    InEra tables era (GivesAgain tables ids (λ number. reply.Claimed number) (Replies reply.Absent tables))
+Happens tables (change.Claim claim) =
+    InEra tables claim.era (GivesAgain tables claim.ids (λ given. reply.Claimed given) (Replies reply.Absent tables))
 -- `TakeFd` takes a descriptor slot. Refused: NoSlot unless one is left.
 Happens tables change.TakeFd =
     Unless tables (0 < tables.slots) NoSlot (Replies reply.Taken (record tables { slots = tables.slots - 1 }))
@@ -120,15 +129,17 @@ Happens tables change.DrawNode = Below tables tables.next_number
 -- `Insert` gives the number of the object's row once more, or adds a row of the number with count 1. Refused:
 -- Overtaken; then, where the object has a row, Last at the end of its count; where it has none, Live if the number
 -- is, then Last at the end of the serials, then Memory.
-Happens tables (change.Insert era number form ids mode) =
-    InEra tables era (GivesAgain tables ids (λ given. reply.Found given)
-    (IfRow tables number_rows (HasNumber number) Live
-    (Adds tables (reply.Inserted number) (with_row tables (new_row tables number form ids mode 1)))))
+Happens tables (change.Insert new) =
+    InEra tables new.era (GivesAgain tables new.ids (λ given. reply.Found given)
+    (IfRow tables number_rows (HasNumber new.number) Live
+    (Adds tables (reply.Inserted new.number)
+    (with_row tables (new_row tables new.number new.form new.ids new.mode 1)))))
 -- `InsertRoot` adds a row of number 1 with count 2, and keeps what was agreed on, where that is said. Refused:
 -- Overtaken; then Live if number 1 is or the object has a row; then Last at the end of the serials; then Memory.
-Happens tables (change.InsertRoot era form ids mode negotiated) =
-    InEra tables era (IfRow tables number_rows (λ row. HasNumber 1 row ⊎ HasIds ids row) Live
-    (Adds tables (reply.Inserted 1) (agreed negotiated (with_row tables (new_row tables 1 form ids mode 2)))))
+Happens tables (change.InsertRoot new) =
+    InEra tables new.era (IfRow tables number_rows (λ row. HasNumber 1 row ⊎ HasIds new.ids row) Live
+    (Adds tables (reply.Inserted 1)
+    (agreed new.negotiated (with_row tables (new_row tables 1 new.form new.ids new.mode 2)))))
 -- `Forget` lets the counts of the pairs fall, in order. It is never refused.
 Happens tables (change.Forget list) = Closes (ForgetsAll tables list)
 -- `GiveBack` lets a live number's count fall by one. Refused: Overtaken; then NotLive unless the number is.
@@ -139,9 +150,9 @@ Happens tables change.DrawHandle = Below tables tables.next_handle
     (Replies (reply.Drawn tables.next_handle) (record tables { next_handle = tables.next_handle + 1 }))
 -- `InsertHandle` adds a row of the handle. Refused: Overtaken; then Live if the handle is; then Last at the end of
 -- the serials; then Memory.
-Happens tables (change.InsertHandle era handle number fd) =
-    InEra tables era (IfRow tables handle_rows (HasHandle handle) Live
-    (Adds tables (reply.Inserted handle) (with_handle tables (new_handle tables handle number fd))))
+Happens tables (change.InsertHandle new) =
+    InEra tables new.era (IfRow tables handle_rows (HasHandle new.handle) Live
+    (Adds tables (reply.Inserted new.handle) (with_handle tables (new_handle tables new.handle new.number new.fd))))
 -- `PinHandle` pins the row of a live handle of that number and tells it. Refused: NotLive unless there is one; then
 -- Last at the end of the row's pins.
 Happens tables (change.PinHandle handle number) =

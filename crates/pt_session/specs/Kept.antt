@@ -28,6 +28,6 @@ abbrev pub Matches : Tables → ObjIds → Matching → Tables → Type 0
 Matches tables ids matching.Nothing after = NoRow tables (HasIds ids) × (after ≡ tables)
 Matches tables ids matching.Full after =
     (row : Row) × IsRow tables row × HasIds ids row × (row.count ≡ last_u64) × (after ≡ tables)
-Matches tables ids (matching.Given number) after =
-    (row : Row) × IsRow tables row × HasIds ids row × (row.number ≡ number) × (row.count < last_u64)
+Matches tables ids (matching.Given given) after =
+    (row : Row) × IsRow tables row × HasIds ids row × (row.number ≡ given.number) × (row.count < last_u64)
     × ChangesRow number_rows tables row (record row { count = row.count + 1 }) after

@@ -21,9 +21,9 @@ put_by told = 0
 
 -- so many more may now be put there
 abbrev pub added_by : Change → EventReply → ℕ
-added_by (change.Insert era number form ids mode) (reply.Inserted given) = 1
-added_by (change.InsertRoot era form ids mode negotiated) (reply.Inserted given) = 1
-added_by (change.InsertHandle era handle number fd) (reply.Inserted given) = 1
+added_by (change.Insert new) (reply.Inserted given) = 1
+added_by (change.InsertRoot new) (reply.Inserted given) = 1
+added_by (change.InsertHandle new) (reply.Inserted given) = 1
 added_by asked told = 0
 
 -- all rows and all that is to be closed

@@ -1,6 +1,6 @@
 ghost use Rattle.std.specs.Prelude.{◌≡◌, IfOk, OnErr};
 ghost use Rattle.std.specs.Option.{option_copied};
-ghost use Rattle.pt_session.specs.Change.{change_of, HoldsList};
+ghost use Rattle.pt_session.specs.Change.{change_of, kept_claim, HoldsList};
 
 use crate::form::{Negotiated, RowForm};
 use pt_host::{Fd, FileHandle, ObjIds};
@@ -35,78 +35,82 @@ impl ForgetPairs {
     }
 }
 
+/// An object whose number is to be given once more, and the era in which its request began.
+#[derive(Clone, Copy)]
+pub struct Claim<'a> {
+    pub era: u64,
+    pub handle: Option<&'a FileHandle>,
+    pub ids: ObjIds,
+}
+
+/// A claim that owns its handle.
+#[derive(Drop)]
+pub struct KeptClaim {
+    pub era: u64,
+    pub handle: Option<FileHandle>,
+    pub ids: ObjIds,
+}
+
+/// A row that is to be inserted for a number, unless its object has one.
+#[derive(Drop)]
+pub struct NewRow {
+    pub era: u64,
+    pub number: u64,
+    pub form: RowForm,
+    pub ids: ObjIds,
+    pub mode: u32,
+}
+
+/// The row of number 1, with what was agreed on, where that is said.
+#[derive(Drop)]
+pub struct NewRoot {
+    pub era: u64,
+    pub form: RowForm,
+    pub ids: ObjIds,
+    pub mode: u32,
+    pub negotiated: Option<Negotiated>,
+}
+
+/// A handle that is to be inserted, with the number that it was opened for.
+#[derive(Clone, Copy)]
+pub struct NewHandle {
+    pub era: u64,
+    pub handle: u64,
+    pub number: u64,
+    pub fd: Fd,
+}
+
 /// One change of the tables. A number is the guest's, a row is named by its serial.
 #[derive(Drop)]
 pub enum Event<'a> {
     /// A request begins.
     Begin,
     /// Pins the row of a live number.
-    Resolve {
-        number: u64,
-    },
-    Unpin {
-        row: u64,
-    },
+    Resolve { number: u64 },
+    Unpin { row: u64 },
     /// Gives the number of a live row of this object once more.
-    Claim {
-        era: u64,
-        handle: Option<&'a FileHandle>,
-        ids: ObjIds,
-    },
+    Claim(Claim<'a>),
     /// Takes a descriptor slot.
     TakeFd,
     GiveFd,
     /// Draws a number that was never given.
     DrawNode,
-    Insert {
-        era: u64,
-        number: u64,
-        form: RowForm,
-        ids: ObjIds,
-        mode: u32,
-    },
+    Insert(NewRow),
     /// Inserts number 1, and says what was agreed on, or leaves it.
-    InsertRoot {
-        era: u64,
-        form: RowForm,
-        ids: ObjIds,
-        mode: u32,
-        negotiated: Option<Negotiated>,
-    },
-    Forget {
-        list: &'a [(u64, u64)],
-    },
+    InsertRoot(NewRoot),
+    Forget { list: &'a [(u64, u64)] },
     /// The same, of this number alone.
-    ForgetOne {
-        number: u64,
-        count: u64,
-    },
+    ForgetOne { number: u64, count: u64 },
     /// Takes back one of what this request was given.
-    GiveBack {
-        era: u64,
-        number: u64,
-    },
+    GiveBack { era: u64, number: u64 },
     /// Draws a handle that was never given.
     DrawHandle,
-    InsertHandle {
-        era: u64,
-        handle: u64,
-        number: u64,
-        fd: Fd,
-    },
+    InsertHandle(NewHandle),
     /// Pins the row of a live handle of this number.
-    PinHandle {
-        handle: u64,
-        number: u64,
-    },
-    UnpinHandle {
-        row: u64,
-    },
+    PinHandle { handle: u64, number: u64 },
+    UnpinHandle { row: u64 },
     /// Ends a handle of this number.
-    Release {
-        handle: u64,
-        number: u64,
-    },
+    Release { handle: u64, number: u64 },
     /// Begins the session anew: no number and no handle stays live.
     Clear,
     /// Takes the first descriptor that is to be closed.
@@ -117,59 +121,21 @@ pub enum Event<'a> {
 #[derive(Drop)]
 pub enum KeptEvent {
     Begin,
-    Resolve {
-        number: u64,
-    },
-    Unpin {
-        row: u64,
-    },
-    Claim {
-        era: u64,
-        handle: Option<FileHandle>,
-        ids: ObjIds,
-    },
+    Resolve { number: u64 },
+    Unpin { row: u64 },
+    Claim(KeptClaim),
     TakeFd,
     GiveFd,
     DrawNode,
-    Insert {
-        era: u64,
-        number: u64,
-        form: RowForm,
-        ids: ObjIds,
-        mode: u32,
-    },
-    InsertRoot {
-        era: u64,
-        form: RowForm,
-        ids: ObjIds,
-        mode: u32,
-        negotiated: Option<Negotiated>,
-    },
-    Forget {
-        list: ForgetPairs,
-    },
-    GiveBack {
-        era: u64,
-        number: u64,
-    },
+    Insert(NewRow),
+    InsertRoot(NewRoot),
+    Forget { list: ForgetPairs },
+    GiveBack { era: u64, number: u64 },
     DrawHandle,
-    InsertHandle {
-        era: u64,
-        handle: u64,
-        number: u64,
-        fd: Fd,
-    },
-    PinHandle {
-        handle: u64,
-        number: u64,
-    },
-    UnpinHandle {
-        row: u64,
-    },
-    Release {
-        handle: u64,
-        number: u64,
-    },
+    InsertHandle(NewHandle),
+    PinHandle { handle: u64, number: u64 },
+    UnpinHandle { row: u64 },
+    Release { handle: u64, number: u64 },
     Clear,
     TakeClosing,
 }
@@ -183,6 +149,62 @@ fn kept_handle(handle: Option<&FileHandle>) -> Option<FileHandle>
     }
 }
 
+impl<'a> Claim<'a> {
+    /// The same claim with a handle of its own, which takes no memory.
+    fn keep(&self) -> KeptClaim
+        ensures { result ≡ kept_claim self.now }
+    {
+        KeptClaim {
+            era: self.era,
+            handle: kept_handle(self.handle),
+            ids: self.ids,
+        }
+    }
+}
+
+impl KeptClaim {
+    /// The same claim, whose handle is lent.
+    fn lend(&self) -> Claim<'_>
+        ensures { kept_claim result ≡ self.now }
+    {
+        Claim {
+            era: self.era,
+            handle: self.handle.as_ref(),
+            ids: self.ids,
+        }
+    }
+}
+
+impl NewRow {
+    /// The same row once more, which takes no memory.
+    pub fn copy(&self) -> NewRow
+        ensures { result ≡ self.now }
+    {
+        NewRow {
+            era: self.era,
+            number: self.number,
+            form: self.form.copy(),
+            ids: self.ids,
+            mode: self.mode,
+        }
+    }
+}
+
+impl NewRoot {
+    /// The same row once more, which takes no memory.
+    pub fn copy(&self) -> NewRoot
+        ensures { result ≡ self.now }
+    {
+        NewRoot {
+            era: self.era,
+            form: self.form.copy(),
+            ids: self.ids,
+            mode: self.mode,
+            negotiated: self.negotiated,
+        }
+    }
+}
+
 impl<'a> Event<'a> {
     /// The same event with a list of its own. Only a list takes memory.
     pub fn keep(&self, alloc: Global) -> Result<KeptEvent, AllocError>
@@ -193,40 +215,12 @@ impl<'a> Event<'a> {
             Event::Begin => Ok(KeptEvent::Begin),
             Event::Resolve { number } => Ok(KeptEvent::Resolve { number: *number }),
             Event::Unpin { row } => Ok(KeptEvent::Unpin { row: *row }),
-            Event::Claim { era, handle, ids } => Ok(KeptEvent::Claim {
-                era: *era,
-                handle: kept_handle(*handle),
-                ids: *ids,
-            }),
+            Event::Claim(claim) => Ok(KeptEvent::Claim(claim.keep())),
             Event::TakeFd => Ok(KeptEvent::TakeFd),
             Event::GiveFd => Ok(KeptEvent::GiveFd),
             Event::DrawNode => Ok(KeptEvent::DrawNode),
-            Event::Insert {
-                era,
-                number,
-                form,
-                ids,
-                mode,
-            } => Ok(KeptEvent::Insert {
-                era: *era,
-                number: *number,
-                form: form.copy(),
-                ids: *ids,
-                mode: *mode,
-            }),
-            Event::InsertRoot {
-                era,
-                form,
-                ids,
-                mode,
-                negotiated,
-            } => Ok(KeptEvent::InsertRoot {
-                era: *era,
-                form: form.copy(),
-                ids: *ids,
-                mode: *mode,
-                negotiated: *negotiated,
-            }),
+            Event::Insert(new) => Ok(KeptEvent::Insert(new.copy())),
+            Event::InsertRoot(new) => Ok(KeptEvent::InsertRoot(new.copy())),
             Event::Forget { list } => {
                 let pairs = list.to_vec(alloc)?;
                 let list = ForgetPairs::from_vec(pairs);
@@ -242,17 +236,7 @@ impl<'a> Event<'a> {
                 number: *number,
             }),
             Event::DrawHandle => Ok(KeptEvent::DrawHandle),
-            Event::InsertHandle {
-                era,
-                handle,
-                number,
-                fd,
-            } => Ok(KeptEvent::InsertHandle {
-                era: *era,
-                handle: *handle,
-                number: *number,
-                fd: *fd,
-            }),
+            Event::InsertHandle(new) => Ok(KeptEvent::InsertHandle(*new)),
             Event::PinHandle { handle, number } => Ok(KeptEvent::PinHandle {
                 handle: *handle,
                 number: *number,
@@ -277,40 +261,12 @@ impl KeptEvent {
             KeptEvent::Begin => Event::Begin,
             KeptEvent::Resolve { number } => Event::Resolve { number: *number },
             KeptEvent::Unpin { row } => Event::Unpin { row: *row },
-            KeptEvent::Claim { era, handle, ids } => Event::Claim {
-                era: *era,
-                handle: handle.as_ref(),
-                ids: *ids,
-            },
+            KeptEvent::Claim(claim) => Event::Claim(claim.lend()),
             KeptEvent::TakeFd => Event::TakeFd,
             KeptEvent::GiveFd => Event::GiveFd,
             KeptEvent::DrawNode => Event::DrawNode,
-            KeptEvent::Insert {
-                era,
-                number,
-                form,
-                ids,
-                mode,
-            } => Event::Insert {
-                era: *era,
-                number: *number,
-                form: form.copy(),
-                ids: *ids,
-                mode: *mode,
-            },
-            KeptEvent::InsertRoot {
-                era,
-                form,
-                ids,
-                mode,
-                negotiated,
-            } => Event::InsertRoot {
-                era: *era,
-                form: form.copy(),
-                ids: *ids,
-                mode: *mode,
-                negotiated: *negotiated,
-            },
+            KeptEvent::Insert(new) => Event::Insert(new.copy()),
+            KeptEvent::InsertRoot(new) => Event::InsertRoot(new.copy()),
             KeptEvent::Forget { list } => Event::Forget {
                 list: list.as_slice(),
             },
@@ -319,17 +275,7 @@ impl KeptEvent {
                 number: *number,
             },
             KeptEvent::DrawHandle => Event::DrawHandle,
-            KeptEvent::InsertHandle {
-                era,
-                handle,
-                number,
-                fd,
-            } => Event::InsertHandle {
-                era: *era,
-                handle: *handle,
-                number: *number,
-                fd: *fd,
-            },
+            KeptEvent::InsertHandle(new) => Event::InsertHandle(*new),
             KeptEvent::PinHandle { handle, number } => Event::PinHandle {
                 handle: *handle,
                 number: *number,

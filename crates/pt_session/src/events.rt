@@ -5,7 +5,6 @@ ghost use Rattle.pt_session.specs.Happens.{Happens};
 ghost use Rattle.pt_session.specs.Kept.{tables_of};
 
 use crate::event::Event;
-use crate::giving::NewRow;
 use crate::reply::EventReply;
 use crate::tables::SessionTables;
 
@@ -21,48 +20,17 @@ impl SessionTables {
             },
             Event::Resolve { number } => self.resolve(*number),
             Event::Unpin { row } => self.unpin(*row),
-            Event::Claim { era, handle, ids } => self.claim(*era, *handle, *ids),
+            Event::Claim(claim) => self.claim(claim),
             Event::TakeFd => self.take_fd(),
             Event::GiveFd => self.give_fd(),
             Event::DrawNode => self.draw_node(),
-            Event::Insert {
-                era,
-                number,
-                form,
-                ids,
-                mode,
-            } => {
-                let new = NewRow {
-                    form,
-                    ids: *ids,
-                    mode: *mode,
-                };
-                self.insert(*era, *number, &new)
-            }
-            Event::InsertRoot {
-                era,
-                form,
-                ids,
-                mode,
-                negotiated,
-            } => {
-                let new = NewRow {
-                    form,
-                    ids: *ids,
-                    mode: *mode,
-                };
-                self.insert_root(*era, &new, *negotiated)
-            }
+            Event::Insert(new) => self.insert(new),
+            Event::InsertRoot(new) => self.insert_root(new),
             Event::Forget { list } => self.forget(list),
             Event::ForgetOne { number, count } => self.forget(&[(*number, *count)]),
             Event::GiveBack { era, number } => self.give_back(*era, *number),
             Event::DrawHandle => self.draw_handle(),
-            Event::InsertHandle {
-                era,
-                handle,
-                number,
-                fd,
-            } => self.insert_handle(*era, *handle, *number, *fd),
+            Event::InsertHandle(new) => self.insert_handle(*new),
             Event::PinHandle { handle, number } => self.pin_handle(*handle, *number),
             Event::UnpinHandle { row } => self.unpin_handle(*row),
             Event::Release { handle, number } => self.release(*handle, *number),

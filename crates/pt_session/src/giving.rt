@@ -1,19 +1,19 @@
 //! How numbers are given.
 ghost use Rattle.std.specs.Prelude.{◌≡◌, ◌<◌, OnOk, IfErr};
-ghost use Rattle.std.specs.Option.{option_copied};
+ghost use Rattle.pt_session.specs.Change.{kept_claim};
 ghost use Rattle.pt_session.specs.Tables.{HasNumber, HasIds, Agree};
 ghost use Rattle.pt_session.specs.Rows.{NoRow};
 ghost use Rattle.pt_session.specs.Outcome.{Adds};
 ghost use Rattle.pt_session.specs.Happens.{Happens, with_row, new_row, agreed};
 ghost use Rattle.pt_session.specs.Kept.{tables_of, Matches};
 
-use crate::event::KeptEvent;
+use crate::event::{Claim, KeptEvent, NewRoot, NewRow};
 use crate::form::{Negotiated, RowForm};
 use crate::pinned::Pinned;
-use crate::reply::{EventRefusal, EventReply};
+use crate::reply::{EventRefusal, EventReply, GivenNumber};
 use crate::row::Row;
 use crate::tables::SessionTables;
-use pt_host::{FileHandle, ObjIds};
+use pt_host::ObjIds;
 
 /// What became of a search for a row of an object, to give its number once more.
 #[derive(Clone, Copy)]
@@ -22,16 +22,15 @@ pub enum Matching {
     Nothing,
     /// The count of its row stands at its end.
     Full,
-    /// The number that was given.
-    Given(u64),
+    Given(GivenNumber),
 }
 
-/// What stands in a new row, its number and count aside.
+/// The object of a new row.
 #[derive(Clone, Copy)]
-pub struct NewRow<'a> {
-    pub form: &'a RowForm,
-    pub ids: ObjIds,
-    pub mode: u32,
+struct NewObject<'a> {
+    form: &'a RowForm,
+    ids: ObjIds,
+    mode: u32,
 }
 
 impl SessionTables {
@@ -45,7 +44,7 @@ impl SessionTables {
                     return Matching::Full;
                 }
                 self.change(&row, row.with_count(row.count + 1));
-                Matching::Given(row.number)
+                Matching::Given(GivenNumber { number: row.number })
             }
         }
     }
@@ -55,7 +54,7 @@ impl SessionTables {
         &mut self,
         number: u64,
         count: u64,
-        new: &NewRow<'_>,
+        new: &NewObject<'_>,
         negotiated: Option<Negotiated>,
     ) -> EventReply
         requires agree { Agree (tables_of self.old) }
@@ -88,57 +87,58 @@ impl SessionTables {
         EventReply::Inserted { number }
     }
 
-    pub fn claim(&mut self, era: u64, handle: Option<&FileHandle>, ids: ObjIds) -> EventReply
-        ensures { Happens (tables_of self.old) (KeptEvent.Claim era (option_copied handle.entry) ids) result
-            (tables_of self.new) }
+    pub fn claim(&mut self, claim: &Claim<'_>) -> EventReply
+        ensures { Happens (tables_of self.old) (KeptEvent.Claim (kept_claim claim.now)) result (tables_of self.new) }
     {
-        if era != self.era {
+        if claim.era != self.era {
             return EventReply::Refused(EventRefusal::Overtaken);
         }
-        match self.give_again(ids) {
+        match self.give_again(claim.ids) {
             Matching::Nothing => EventReply::Absent,
             Matching::Full => EventReply::Refused(EventRefusal::Last),
-            Matching::Given(number) => EventReply::Claimed { number },
+            Matching::Given(given) => EventReply::Claimed(given),
         }
     }
 
-    pub fn insert(&mut self, era: u64, number: u64, new: &NewRow<'_>) -> EventReply
+    pub fn insert(&mut self, new: &NewRow) -> EventReply
         requires { Agree (tables_of self.old) }
-        ensures { Happens (tables_of self.old)
-            (KeptEvent.Insert era number new.now.form.now new.now.ids new.now.mode) result (tables_of self.new) }
+        ensures { Happens (tables_of self.old) (KeptEvent.Insert new.now) result (tables_of self.new) }
     {
-        if era != self.era {
+        if new.era != self.era {
             return EventReply::Refused(EventRefusal::Overtaken);
         }
         match self.give_again(new.ids) {
             Matching::Full => EventReply::Refused(EventRefusal::Last),
-            Matching::Given(number) => EventReply::Found { number },
+            Matching::Given(given) => EventReply::Found(given),
             Matching::Nothing => {
-                if self.store.live(number).is_some() {
+                if self.store.live(new.number).is_some() {
                     return EventReply::Refused(EventRefusal::Live);
                 }
-                self.add(number, 1, new, None)
+                let object = NewObject {
+                    form: &new.form,
+                    ids: new.ids,
+                    mode: new.mode,
+                };
+                self.add(new.number, 1, &object, None)
             }
         }
     }
 
-    pub fn insert_root(
-        &mut self,
-        era: u64,
-        new: &NewRow<'_>,
-        negotiated: Option<Negotiated>,
-    ) -> EventReply
+    pub fn insert_root(&mut self, new: &NewRoot) -> EventReply
         requires { Agree (tables_of self.old) }
-        ensures { Happens (tables_of self.old)
-            (KeptEvent.InsertRoot era new.now.form.now new.now.ids new.now.mode negotiated) result
-            (tables_of self.new) }
+        ensures { Happens (tables_of self.old) (KeptEvent.InsertRoot new.now) result (tables_of self.new) }
     {
-        if era != self.era {
+        if new.era != self.era {
             return EventReply::Refused(EventRefusal::Overtaken);
         }
         if self.store.live(1).is_some() || self.store.object(new.ids).is_some() {
             return EventReply::Refused(EventRefusal::Live);
         }
-        self.add(1, 2, new, negotiated)
+        let object = NewObject {
+            form: &new.form,
+            ids: new.ids,
+            mode: new.mode,
+        };
+        self.add(1, 2, &object, new.negotiated)
     }
 }

@@ -6,12 +6,11 @@ ghost use Rattle.pt_session.specs.Rows.{handle_rows, IsAmong, ChangesRow, EndsRo
 ghost use Rattle.pt_session.specs.Happens.{Happens};
 ghost use Rattle.pt_session.specs.Kept.{tables_of};
 
-use crate::event::KeptEvent;
+use crate::event::{KeptEvent, NewHandle};
 use crate::pinned::Pinned;
 use crate::reply::{EventRefusal, EventReply};
 use crate::row::HandleRow;
 use crate::tables::SessionTables;
-use pt_host::Fd;
 
 impl SessionTables {
     /// Puts the handle's row as it is now in its place.
@@ -57,15 +56,14 @@ impl SessionTables {
         EventReply::Drawn { number: handle }
     }
 
-    pub fn insert_handle(&mut self, era: u64, handle: u64, number: u64, fd: Fd) -> EventReply
+    pub fn insert_handle(&mut self, new: NewHandle) -> EventReply
         requires { Agree (tables_of self.old) }
-        ensures { Happens (tables_of self.old) (KeptEvent.InsertHandle era handle number fd) result
-            (tables_of self.new) }
+        ensures { Happens (tables_of self.old) (KeptEvent.InsertHandle new) result (tables_of self.new) }
     {
-        if era != self.era {
+        if new.era != self.era {
             return EventReply::Refused(EventRefusal::Overtaken);
         }
-        if self.store.live_handle(handle).is_some() {
+        if self.store.live_handle(new.handle).is_some() {
             return EventReply::Refused(EventRefusal::Live);
         }
         let serial = self.next_row;
@@ -74,9 +72,9 @@ impl SessionTables {
         }
         let row = HandleRow {
             serial,
-            handle,
-            number,
-            fd,
+            handle: new.handle,
+            number: new.number,
+            fd: new.fd,
             pins: 0,
             live: true,
         };
@@ -84,7 +82,7 @@ impl SessionTables {
             return EventReply::Refused(EventRefusal::Memory);
         }
         self.next_row = serial + 1;
-        EventReply::Inserted { number: handle }
+        EventReply::Inserted { number: new.handle }
     }
 
     pub fn pin_handle(&mut self, handle: u64, number: u64) -> EventReply

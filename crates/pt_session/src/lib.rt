@@ -18,12 +18,12 @@ mod store;
 mod tables;
 mod taking;
 
-pub use event::{Event, ForgetPairs, KeptEvent};
+pub use event::{Claim, Event, ForgetPairs, KeptClaim, KeptEvent, NewHandle, NewRoot, NewRow};
 pub use form::{Negotiated, RowForm};
 pub use laws::{
     clearings_clear, closings_are_paid, events_are_answered, events_are_determined,
     events_have_effects, events_keep_agreement, refusals_change_nothing,
 };
-pub use reply::{EventRefusal, EventReply};
+pub use reply::{EventRefusal, EventReply, GivenNumber, Resolved};
 pub use row::{Closing, HandleRow, Row};
 pub use session::Session;

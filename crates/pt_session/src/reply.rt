@@ -1,6 +1,7 @@
 ghost use Rattle.std.specs.Prelude.{◌≡◌};
 
 use crate::form::{Negotiated, RowForm};
+use crate::row::Closing;
 use pt_host::{Fd, ObjIds};
 
 /// Why an event was refused. A refused event changes nothing.
@@ -19,54 +20,55 @@ pub enum EventRefusal {
     Memory,
 }
 
+/// What resolving a number tells: its row, which is pinned now, how its object is kept, and its ids and mode.
+#[derive(Drop)]
+pub struct Resolved {
+    pub row: u64,
+    pub form: RowForm,
+    pub ids: ObjIds,
+    pub mode: u32,
+}
+
+/// A number that was given once more.
+#[derive(Clone, Copy)]
+pub struct GivenNumber {
+    pub number: u64,
+}
+
+impl Resolved {
+    /// The same once more, which takes no memory.
+    pub fn copy(&self) -> Resolved
+        ensures { result ≡ self.now }
+    {
+        Resolved {
+            row: self.row,
+            form: self.form.copy(),
+            ids: self.ids,
+            mode: self.mode,
+        }
+    }
+}
+
 /// What an event is answered.
 #[derive(Drop)]
 pub enum EventReply {
-    Began {
-        era: u64,
-        negotiated: Negotiated,
-    },
-    Resolved {
-        row: u64,
-        form: RowForm,
-        ids: ObjIds,
-        mode: u32,
-    },
+    Began { era: u64, negotiated: Negotiated },
+    Resolved(Resolved),
     /// So many descriptors were put on the closing list.
-    Done {
-        closings: u64,
-    },
-    Claimed {
-        number: u64,
-    },
+    Done { closings: u64 },
+    Claimed(GivenNumber),
     Absent,
     Taken,
     Given,
-    Drawn {
-        number: u64,
-    },
-    Inserted {
-        number: u64,
-    },
+    Drawn { number: u64 },
+    Inserted { number: u64 },
     /// A row of this object was inserted meanwhile, and its number was given once more.
-    Found {
-        number: u64,
-    },
-    /// A descriptor to close, and whether a slot goes back with it.
-    Closing {
-        fd: Fd,
-        slot: bool,
-    },
+    Found(GivenNumber),
+    Closing(Closing),
     /// A handle's row and its descriptor.
-    Pinned {
-        row: u64,
-        fd: Fd,
-    },
+    Pinned { row: u64, fd: Fd },
     /// The session's new era, and how many descriptors were put on the closing list.
-    Cleared {
-        era: u64,
-        closings: u64,
-    },
+    Cleared { era: u64, closings: u64 },
     Refused(EventRefusal),
 }
 
@@ -80,31 +82,18 @@ impl EventReply {
                 era: *era,
                 negotiated: *negotiated,
             },
-            EventReply::Resolved {
-                row,
-                form,
-                ids,
-                mode,
-            } => EventReply::Resolved {
-                row: *row,
-                form: form.copy(),
-                ids: *ids,
-                mode: *mode,
-            },
+            EventReply::Resolved(resolved) => EventReply::Resolved(resolved.copy()),
             EventReply::Done { closings } => EventReply::Done {
                 closings: *closings,
             },
-            EventReply::Claimed { number } => EventReply::Claimed { number: *number },
+            EventReply::Claimed(given) => EventReply::Claimed(*given),
             EventReply::Absent => EventReply::Absent,
             EventReply::Taken => EventReply::Taken,
             EventReply::Given => EventReply::Given,
             EventReply::Drawn { number } => EventReply::Drawn { number: *number },
             EventReply::Inserted { number } => EventReply::Inserted { number: *number },
-            EventReply::Found { number } => EventReply::Found { number: *number },
-            EventReply::Closing { fd, slot } => EventReply::Closing {
-                fd: *fd,
-                slot: *slot,
-            },
+            EventReply::Found(given) => EventReply::Found(*given),
+            EventReply::Closing(first) => EventReply::Closing(*first),
             EventReply::Pinned { row, fd } => EventReply::Pinned { row: *row, fd: *fd },
             EventReply::Cleared { era, closings } => EventReply::Cleared {
                 era: *era,

@@ -120,10 +120,7 @@ impl SessionTables {
     {
         match self.store.take_closing() {
             None => EventReply::Refused(EventRefusal::NotLive),
-            Some(closing) => EventReply::Closing {
-                fd: closing.fd,
-                slot: closing.slot,
-            },
+            Some(closing) => EventReply::Closing(closing),
         }
     }
 

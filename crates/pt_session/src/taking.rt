@@ -6,7 +6,7 @@ ghost use Rattle.pt_session.specs.Kept.{tables_of};
 
 use crate::event::KeptEvent;
 use crate::pinned::Pinned;
-use crate::reply::{EventRefusal, EventReply};
+use crate::reply::{EventRefusal, EventReply, Resolved};
 use crate::row::Row;
 use crate::tables::SessionTables;
 
@@ -21,12 +21,12 @@ impl SessionTables {
                     return EventReply::Refused(EventRefusal::Last);
                 }
                 self.change(&row, row.with_pins(row.pins + 1));
-                EventReply::Resolved {
+                EventReply::Resolved(Resolved {
                     row: row.serial,
                     form: row.form,
                     ids: row.ids,
                     mode: row.mode,
-                }
+                })
             }
         }
     }

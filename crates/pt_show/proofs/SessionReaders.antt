@@ -61,27 +61,35 @@ pairs = both numbers numbers
 pub rows : Reads (λ (row : (RowForm × ObjIds) × ℕ). row_text row.0.0 row.0.1 row.1)
 rows = both (both forms obj_ids) numbers
 
--- events
+-- events, made of the words that follow their names
+abbrev claim_read : (ℕ × Option FileHandle) × ObjIds → KeptEvent
+claim_read f = event.Claim (record { era = f.0.0; handle = f.0.1; ids = f.1 })
+
+abbrev row_read : (ℕ × ℕ) × ((RowForm × ObjIds) × ℕ) → KeptEvent
+row_read f = event.Insert (record { era = f.0.0; number = f.0.1; form = f.1.0.0; ids = f.1.0.1; mode = f.1.1 })
+
+abbrev root_read : (ℕ × ((RowForm × ObjIds) × ℕ)) × Option Negotiated → KeptEvent
+root_read f =
+    event.InsertRoot (record { era = f.0.0; form = f.0.1.0.0; ids = f.0.1.0.1; mode = f.0.1.1; negotiated = f.1 })
+
+abbrev handle_read : ((ℕ × ℕ) × ℕ) × Fd → KeptEvent
+handle_read f = event.InsertHandle (record { era = f.0.0.0; handle = f.0.0.1; number = f.0.1; fd = f.1 })
+
 abbrev pub event_kinds : List (Kind KeptEvent)
 event_kinds =
     kind (codes "Begin") nothing (λ (none : Unit {0}). event.Begin)
     ∷ kind (codes "Resolve") numbers (λ (a : ℕ). event.Resolve a)
     ∷ kind (codes "Unpin") numbers (λ (a : ℕ). event.Unpin a)
-    ∷ kind (codes "Claim") (both (both numbers (options handles)) obj_ids)
-    (λ (f : (ℕ × Option FileHandle) × ObjIds). event.Claim f.0.0 f.0.1 f.1)
+    ∷ kind (codes "Claim") (both (both numbers (options handles)) obj_ids) claim_read
     ∷ kind (codes "TakeFd") nothing (λ (none : Unit {0}). event.TakeFd)
     ∷ kind (codes "GiveFd") nothing (λ (none : Unit {0}). event.GiveFd)
     ∷ kind (codes "DrawNode") nothing (λ (none : Unit {0}). event.DrawNode)
-    ∷ kind (codes "Insert") (both (both numbers numbers) rows) (λ (f : (ℕ × ℕ) × ((RowForm × ObjIds) × ℕ)).
-    event.Insert f.0.0 f.0.1 f.1.0.0 f.1.0.1 f.1.1)
-    ∷ kind (codes "InsertRoot") (both (both numbers rows) (options agreements))
-    (λ (f : (ℕ × ((RowForm × ObjIds) × ℕ)) × Option Negotiated). event.InsertRoot f.0.0 f.0.1.0.0 f.0.1.0.1 f.0.1.1
-    f.1)
+    ∷ kind (codes "Insert") (both (both numbers numbers) rows) row_read
+    ∷ kind (codes "InsertRoot") (both (both numbers rows) (options agreements)) root_read
     ∷ kind (codes "Forget") (lists numbers pairs) (λ (a : List (ℕ × ℕ)). event.Forget a)
     ∷ kind (codes "GiveBack") (both numbers numbers) (λ (f : ℕ × ℕ). event.GiveBack f.0 f.1)
     ∷ kind (codes "DrawHandle") nothing (λ (none : Unit {0}). event.DrawHandle)
-    ∷ kind (codes "InsertHandle") (both (both (both numbers numbers) numbers) fds)
-    (λ (f : ((ℕ × ℕ) × ℕ) × Fd). event.InsertHandle f.0.0.0 f.0.0.1 f.0.1 f.1)
+    ∷ kind (codes "InsertHandle") (both (both (both numbers numbers) numbers) fds) handle_read
     ∷ kind (codes "PinHandle") (both numbers numbers) (λ (f : ℕ × ℕ). event.PinHandle f.0 f.1)
     ∷ kind (codes "UnpinHandle") numbers (λ (a : ℕ). event.UnpinHandle a)
     ∷ kind (codes "Release") (both numbers numbers) (λ (f : ℕ × ℕ). event.Release f.0 f.1)
@@ -97,9 +105,9 @@ event-back (event.Resolve number) rest p =
     named event_kinds (codes "Resolve") numbers (λ (a : ℕ). event.Resolve a) refl (λ _. refl) number rest p
 event-back (event.Unpin row) rest p =
     named event_kinds (codes "Unpin") numbers (λ (a : ℕ). event.Unpin a) refl (λ _. refl) row rest p
-event-back (event.Claim era handle ids) rest p =
+event-back (event.Claim claim) rest p =
     named event_kinds (codes "Claim") (both (both numbers (options handles)) obj_ids)
-    (λ (f : (ℕ × Option FileHandle) × ObjIds). event.Claim f.0.0 f.0.1 f.1) refl (λ _. refl) ((era, handle), ids)
+    claim_read refl (λ _. refl) ((claim.era, claim.handle), claim.ids)
     rest p
 event-back event.TakeFd rest p =
     named event_kinds (codes "TakeFd") nothing (λ (none : Unit {0}). event.TakeFd) refl (λ _. refl) tt rest p
@@ -107,14 +115,13 @@ event-back event.GiveFd rest p =
     named event_kinds (codes "GiveFd") nothing (λ (none : Unit {0}). event.GiveFd) refl (λ _. refl) tt rest p
 event-back event.DrawNode rest p =
     named event_kinds (codes "DrawNode") nothing (λ (none : Unit {0}). event.DrawNode) refl (λ _. refl) tt rest p
-event-back (event.Insert era number form ids mode) rest p =
+event-back (event.Insert new) rest p =
     named event_kinds (codes "Insert") (both (both numbers numbers) rows)
-    (λ (f : (ℕ × ℕ) × ((RowForm × ObjIds) × ℕ)). event.Insert f.0.0 f.0.1 f.1.0.0 f.1.0.1 f.1.1) refl (λ _. refl)
-    ((era, number), ((form, ids), mode)) rest p
-event-back (event.InsertRoot era form ids mode negotiated) rest p =
+    row_read refl (λ _. refl)
+    ((new.era, new.number), ((new.form, new.ids), new.mode)) rest p
+event-back (event.InsertRoot new) rest p =
     named event_kinds (codes "InsertRoot") (both (both numbers rows) (options agreements))
-    (λ (f : (ℕ × ((RowForm × ObjIds) × ℕ)) × Option Negotiated). event.InsertRoot f.0.0 f.0.1.0.0 f.0.1.0.1 f.0.1.1
-    f.1) refl (λ _. refl) ((era, ((form, ids), mode)), negotiated) rest p
+    root_read refl (λ _. refl) ((new.era, ((new.form, new.ids), new.mode)), new.negotiated) rest p
 event-back (event.Forget list) rest p =
     named event_kinds (codes "Forget") (lists numbers pairs) (λ (a : List (ℕ × ℕ)). event.Forget a) refl (λ _. refl)
     list rest p
@@ -123,10 +130,10 @@ event-back (event.GiveBack era number) rest p =
     (λ _. refl) (era, number) rest p
 event-back event.DrawHandle rest p =
     named event_kinds (codes "DrawHandle") nothing (λ (none : Unit {0}). event.DrawHandle) refl (λ _. refl) tt rest p
-event-back (event.InsertHandle era handle number fd) rest p =
+event-back (event.InsertHandle new) rest p =
     named event_kinds (codes "InsertHandle") (both (both (both numbers numbers) numbers) fds)
-    (λ (f : ((ℕ × ℕ) × ℕ) × Fd). event.InsertHandle f.0.0.0 f.0.0.1 f.0.1 f.1) refl (λ _. refl)
-    (((era, handle), number), fd) rest p
+    handle_read refl (λ _. refl)
+    (((new.era, new.handle), new.number), new.fd) rest p
 event-back (event.PinHandle handle number) rest p =
     named event_kinds (codes "PinHandle") (both numbers numbers) (λ (f : ℕ × ℕ). event.PinHandle f.0 f.1) refl
     (λ _. refl) (handle, number) rest p
@@ -195,20 +202,31 @@ unfolding refusals
 refusals-read text = refl
 
 -- replies
+abbrev resolved_read : ℕ × ((RowForm × ObjIds) × ℕ) → EventReply
+resolved_read f = reply.Resolved (record { row = f.0; form = f.1.0.0; ids = f.1.0.1; mode = f.1.1 })
+
+abbrev claimed_read : ℕ → EventReply
+claimed_read a = reply.Claimed (record { number = a })
+
+abbrev found_read : ℕ → EventReply
+found_read a = reply.Found (record { number = a })
+
+abbrev closing_read : Fd × Bool → EventReply
+closing_read f = reply.Closing (record { fd = f.0; slot = f.1 })
+
 abbrev pub event_reply_kinds : List (Kind EventReply)
 event_reply_kinds =
     kind (codes "Began") (both numbers agreements) (λ (f : ℕ × Negotiated). reply.Began f.0 f.1)
-    ∷ kind (codes "Resolved") (both numbers rows) (λ (f : ℕ × ((RowForm × ObjIds) × ℕ)). reply.Resolved f.0 f.1.0.0
-    f.1.0.1 f.1.1)
+    ∷ kind (codes "Resolved") (both numbers rows) resolved_read
     ∷ kind (codes "Done") numbers (λ (a : ℕ). reply.Done a)
-    ∷ kind (codes "Claimed") numbers (λ (a : ℕ). reply.Claimed a)
+    ∷ kind (codes "Claimed") numbers claimed_read
     ∷ kind (codes "Absent") nothing (λ (none : Unit {0}). reply.Absent)
     ∷ kind (codes "Taken") nothing (λ (none : Unit {0}). reply.Taken)
     ∷ kind (codes "Given") nothing (λ (none : Unit {0}). reply.Given)
     ∷ kind (codes "Drawn") numbers (λ (a : ℕ). reply.Drawn a)
     ∷ kind (codes "Inserted") numbers (λ (a : ℕ). reply.Inserted a)
-    ∷ kind (codes "Found") numbers (λ (a : ℕ). reply.Found a)
-    ∷ kind (codes "Closing") (both fds switches) (λ (f : Fd × Bool). reply.Closing f.0 f.1)
+    ∷ kind (codes "Found") numbers found_read
+    ∷ kind (codes "Closing") (both fds switches) closing_read
     ∷ kind (codes "Pinned") (both numbers fds) (λ (f : ℕ × Fd). reply.Pinned f.0 f.1)
     ∷ kind (codes "Cleared") (both numbers numbers) (λ (f : ℕ × ℕ). reply.Cleared f.0 f.1)
     ∷ kind (codes "Refused") refusals (λ (a : EventRefusal). reply.Refused a)
@@ -219,14 +237,14 @@ pub event_reply-back : (value : EventReply) (rest : List ℕ) → IsParted rest 
 event_reply-back (reply.Began era negotiated) rest p =
     named event_reply_kinds (codes "Began") (both numbers agreements) (λ (f : ℕ × Negotiated). reply.Began f.0 f.1)
     refl (λ _. refl) (era, negotiated) rest p
-event_reply-back (reply.Resolved row form ids mode) rest p =
+event_reply-back (reply.Resolved resolved) rest p =
     named event_reply_kinds (codes "Resolved") (both numbers rows)
-    (λ (f : ℕ × ((RowForm × ObjIds) × ℕ)). reply.Resolved f.0 f.1.0.0 f.1.0.1 f.1.1) refl (λ _. refl)
-    (row, ((form, ids), mode)) rest p
+    resolved_read refl (λ _. refl)
+    (resolved.row, ((resolved.form, resolved.ids), resolved.mode)) rest p
 event_reply-back (reply.Done closings) rest p =
     named event_reply_kinds (codes "Done") numbers (λ (a : ℕ). reply.Done a) refl (λ _. refl) closings rest p
-event_reply-back (reply.Claimed number) rest p =
-    named event_reply_kinds (codes "Claimed") numbers (λ (a : ℕ). reply.Claimed a) refl (λ _. refl) number rest p
+event_reply-back (reply.Claimed given) rest p =
+    named event_reply_kinds (codes "Claimed") numbers claimed_read refl (λ _. refl) given.number rest p
 event_reply-back reply.Absent rest p =
     named event_reply_kinds (codes "Absent") nothing (λ (none : Unit {0}). reply.Absent) refl (λ _. refl) tt rest p
 event_reply-back reply.Taken rest p =
@@ -237,11 +255,11 @@ event_reply-back (reply.Drawn number) rest p =
     named event_reply_kinds (codes "Drawn") numbers (λ (a : ℕ). reply.Drawn a) refl (λ _. refl) number rest p
 event_reply-back (reply.Inserted number) rest p =
     named event_reply_kinds (codes "Inserted") numbers (λ (a : ℕ). reply.Inserted a) refl (λ _. refl) number rest p
-event_reply-back (reply.Found number) rest p =
-    named event_reply_kinds (codes "Found") numbers (λ (a : ℕ). reply.Found a) refl (λ _. refl) number rest p
-event_reply-back (reply.Closing fd slot) rest p =
-    named event_reply_kinds (codes "Closing") (both fds switches) (λ (f : Fd × Bool). reply.Closing f.0 f.1) refl
-    (λ _. refl) (fd, slot) rest p
+event_reply-back (reply.Found given) rest p =
+    named event_reply_kinds (codes "Found") numbers found_read refl (λ _. refl) given.number rest p
+event_reply-back (reply.Closing first) rest p =
+    named event_reply_kinds (codes "Closing") (both fds switches) closing_read refl
+    (λ _. refl) (first.fd, first.slot) rest p
 event_reply-back (reply.Pinned row fd) rest p =
     named event_reply_kinds (codes "Pinned") (both numbers fds) (λ (f : ℕ × Fd). reply.Pinned f.0 f.1) refl
     (λ _. refl) (row, fd) rest p

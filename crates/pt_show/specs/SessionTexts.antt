@@ -48,22 +48,23 @@ abbrev pub event_text : KeptEvent → List ℕ
 event_text event.Begin = word (codes "Begin")
 event_text (event.Resolve number) = word (codes "Resolve") ++ number_text number
 event_text (event.Unpin row) = word (codes "Unpin") ++ number_text row
-event_text (event.Claim era handle ids) =
-    word (codes "Claim") ++ number_text era ++ option_text handle_text handle ++ ids_text ids
+event_text (event.Claim claim) =
+    word (codes "Claim") ++ number_text claim.era ++ option_text handle_text claim.handle ++ ids_text claim.ids
 -- slots of descriptors
 event_text event.TakeFd = word (codes "TakeFd")
 event_text event.GiveFd = word (codes "GiveFd")
 -- new numbers, and what is taken back of them
 event_text event.DrawNode = word (codes "DrawNode")
-event_text (event.Insert era number form ids mode) =
-    word (codes "Insert") ++ number_text era ++ number_text number ++ row_text form ids mode
-event_text (event.InsertRoot era form ids mode negotiated) =
-    word (codes "InsertRoot") ++ number_text era ++ row_text form ids mode ++ option_text negotiated_text negotiated
+event_text (event.Insert new) =
+    word (codes "Insert") ++ number_text new.era ++ number_text new.number ++ row_text new.form new.ids new.mode
+event_text (event.InsertRoot new) =
+    word (codes "InsertRoot") ++ number_text new.era ++ row_text new.form new.ids new.mode
+    ++ option_text negotiated_text new.negotiated
 event_text (event.Forget list) = word (codes "Forget") ++ forgets_text list
 event_text (event.GiveBack era number) = word (codes "GiveBack") ++ number_text era ++ number_text number
 -- handles
 event_text event.DrawHandle = word (codes "DrawHandle")
-event_text (event.InsertHandle era handle number fd) = new_handle_text (codes "InsertHandle") era handle number fd
+event_text (event.InsertHandle new) = new_handle_text (codes "InsertHandle") new.era new.handle new.number new.fd
 event_text (event.PinHandle handle number) = word (codes "PinHandle") ++ number_text handle ++ number_text number
 event_text (event.UnpinHandle row) = word (codes "UnpinHandle") ++ number_text row
 event_text (event.Release handle number) = word (codes "Release") ++ number_text handle ++ number_text number
@@ -84,10 +85,10 @@ refusal_text refusal.Memory = word (codes "Memory")
 abbrev pub event_reply_text : EventReply → List ℕ
 -- numbers and their rows
 event_reply_text (reply.Began era negotiated) = word (codes "Began") ++ number_text era ++ negotiated_text negotiated
-event_reply_text (reply.Resolved row form ids mode) =
-    word (codes "Resolved") ++ number_text row ++ row_text form ids mode
+event_reply_text (reply.Resolved resolved) =
+    word (codes "Resolved") ++ number_text resolved.row ++ row_text resolved.form resolved.ids resolved.mode
 event_reply_text (reply.Done closings) = word (codes "Done") ++ number_text closings
-event_reply_text (reply.Claimed number) = word (codes "Claimed") ++ number_text number
+event_reply_text (reply.Claimed given) = word (codes "Claimed") ++ number_text given.number
 event_reply_text reply.Absent = word (codes "Absent")
 -- slots and counters
 event_reply_text reply.Taken = word (codes "Taken")
@@ -95,8 +96,8 @@ event_reply_text reply.Given = word (codes "Given")
 event_reply_text (reply.Drawn number) = word (codes "Drawn") ++ number_text number
 -- insertions, closings and handles
 event_reply_text (reply.Inserted number) = word (codes "Inserted") ++ number_text number
-event_reply_text (reply.Found number) = word (codes "Found") ++ number_text number
-event_reply_text (reply.Closing fd slot) = word (codes "Closing") ++ fd_text fd ++ switch_text slot
+event_reply_text (reply.Found given) = word (codes "Found") ++ number_text given.number
+event_reply_text (reply.Closing first) = word (codes "Closing") ++ fd_text first.fd ++ switch_text first.slot
 event_reply_text (reply.Pinned row fd) = word (codes "Pinned") ++ number_text row ++ fd_text fd
 event_reply_text (reply.Cleared era closings) = word (codes "Cleared") ++ number_text era ++ number_text closings
 -- a refusal

@@ -1,6 +1,8 @@
 //! Events of a session read from their texts.
 use crate::read::{Read, ReadError, Words};
-use pt_session::{ForgetPairs, KeptEvent, Negotiated, RowForm};
+use pt_session::{
+    ForgetPairs, KeptClaim, KeptEvent, Negotiated, NewHandle, NewRoot, NewRow, RowForm,
+};
 
 impl Read for (u64, u64) {
     fn read(words: &mut Words<'_>) -> Result<Self, ReadError> {
@@ -44,27 +46,27 @@ fn next_of_numbers(name: &str, words: &mut Words<'_>) -> Result<Option<KeptEvent
         "Unpin" => KeptEvent::Unpin { row: words.next()? },
         "Claim" => {
             let (era, handle, ids) = words.three()?;
-            KeptEvent::Claim { era, handle, ids }
+            KeptEvent::Claim(KeptClaim { era, handle, ids })
         }
         "Insert" => {
             let (era, number, form, ids, mode) = words.five()?;
-            KeptEvent::Insert {
+            KeptEvent::Insert(NewRow {
                 era,
                 number,
                 form,
                 ids,
                 mode,
-            }
+            })
         }
         "InsertRoot" => {
             let (era, form, ids, mode, negotiated) = words.five()?;
-            KeptEvent::InsertRoot {
+            KeptEvent::InsertRoot(NewRoot {
                 era,
                 form,
                 ids,
                 mode,
                 negotiated,
-            }
+            })
         }
         "Forget" => KeptEvent::Forget {
             list: words.next()?,
@@ -83,12 +85,12 @@ fn next_of_handles(name: &str, words: &mut Words<'_>) -> Result<Option<KeptEvent
     let event = match name {
         "InsertHandle" => {
             let (era, handle, number, fd) = words.four()?;
-            KeptEvent::InsertHandle {
+            KeptEvent::InsertHandle(NewHandle {
                 era,
                 handle,
                 number,
                 fd,
-            }
+            })
         }
         "PinHandle" => {
             let (handle, number) = words.two()?;

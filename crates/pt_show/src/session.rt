@@ -7,7 +7,9 @@ ghost use Rattle.pt_show.specs.SessionTexts.{event_text, refusal_text, event_rep
 use crate::plain::{push_four, push_name, push_named, push_three, push_two};
 use crate::text::Text;
 use pt_host::ObjIds;
-use pt_session::{Event, EventRefusal, EventReply, ForgetPairs, KeptEvent, Negotiated, RowForm};
+use pt_session::{
+    Event, EventRefusal, EventReply, ForgetPairs, KeptEvent, Negotiated, NewRoot, NewRow, RowForm,
+};
 use std::alloc::AllocError;
 use std::slice;
 
@@ -30,35 +32,19 @@ fn write_row(out: &mut Vec<u8>, form: &RowForm, ids: ObjIds, mode: u32) -> Resul
     mode.write(out)
 }
 
-fn write_insertion(
-    out: &mut Vec<u8>,
-    era: u64,
-    number: u64,
-    form: &RowForm,
-    ids: ObjIds,
-    mode: u32,
-) -> Result<(), AllocError>
-    ensures { OnOk result
-        (out.new.items ≡ out.old.items ++ event_text (event.Insert era number form.now ids mode)) }
+fn write_insertion(out: &mut Vec<u8>, new: &NewRow) -> Result<(), AllocError>
+    ensures { OnOk result (out.new.items ≡ out.old.items ++ event_text (event.Insert new.now)) }
 {
-    push_two(out, b" Insert", &era, &number)?;
-    write_row(out, form, ids, mode)
+    push_two(out, b" Insert", &new.era, &new.number)?;
+    write_row(out, &new.form, new.ids, new.mode)
 }
 
-fn write_root(
-    out: &mut Vec<u8>,
-    era: u64,
-    form: &RowForm,
-    ids: ObjIds,
-    mode: u32,
-    negotiated: &Option<Negotiated>,
-) -> Result<(), AllocError>
-    ensures { OnOk result
-        (out.new.items ≡ out.old.items ++ event_text (event.InsertRoot era form.now ids mode negotiated.now)) }
+fn write_root(out: &mut Vec<u8>, new: &NewRoot) -> Result<(), AllocError>
+    ensures { OnOk result (out.new.items ≡ out.old.items ++ event_text (event.InsertRoot new.now)) }
 {
-    push_named(out, b" InsertRoot", &era)?;
-    write_row(out, form, ids, mode)?;
-    negotiated.write(out)
+    push_named(out, b" InsertRoot", &new.era)?;
+    write_row(out, &new.form, new.ids, new.mode)?;
+    new.negotiated.write(out)
 }
 
 impl Text for Negotiated {
@@ -97,36 +83,30 @@ impl Text for Event<'_> {
             Event::Begin => push_name(out, b" Begin"),
             Event::Resolve { number } => push_named(out, b" Resolve", number),
             Event::Unpin { row } => push_named(out, b" Unpin", row),
-            Event::Claim { era, handle, ids } => push_three(out, b" Claim", era, handle, ids),
+            Event::Claim(claim) => {
+                push_three(out, b" Claim", &claim.era, &claim.handle, &claim.ids)
+            }
             Event::TakeFd => push_name(out, b" TakeFd"),
             Event::GiveFd => push_name(out, b" GiveFd"),
             Event::DrawNode => push_name(out, b" DrawNode"),
-            Event::Insert {
-                era,
-                number,
-                form,
-                ids,
-                mode,
-            } => write_insertion(out, *era, *number, form, *ids, *mode),
-            Event::InsertRoot {
-                era,
-                form,
-                ids,
-                mode,
-                negotiated,
-            } => write_root(out, *era, form, *ids, *mode, negotiated),
+            Event::Insert(new) => write_insertion(out, new),
+            Event::InsertRoot(new) => write_root(out, new),
             Event::Forget { list } => push_named(out, b" Forget", list),
             Event::ForgetOne { number, count } => {
                 push_named(out, b" Forget", &slice::from_ref(&(*number, *count)))
             }
             Event::GiveBack { era, number } => push_two(out, b" GiveBack", era, number),
             Event::DrawHandle => push_name(out, b" DrawHandle"),
-            Event::InsertHandle {
-                era,
-                handle,
-                number,
-                fd,
-            } => push_four(out, b" InsertHandle", era, handle, number, fd),
+            Event::InsertHandle(new) => {
+                push_four(
+                    out,
+                    b" InsertHandle",
+                    &new.era,
+                    &new.handle,
+                    &new.number,
+                    &new.fd,
+                )
+            }
             Event::PinHandle { handle, number } => push_two(out, b" PinHandle", handle, number),
             Event::UnpinHandle { row } => push_named(out, b" UnpinHandle", row),
             Event::Release { handle, number } => push_two(out, b" Release", handle, number),
@@ -165,24 +145,19 @@ impl Text for EventReply {
     fn write(&self, out: &mut Vec<u8>) -> Result<(), AllocError> {
         match self {
             EventReply::Began { era, negotiated } => push_two(out, b" Began", era, negotiated),
-            EventReply::Resolved {
-                row,
-                form,
-                ids,
-                mode,
-            } => {
-                push_named(out, b" Resolved", row)?;
-                write_row(out, form, *ids, *mode)
+            EventReply::Resolved(resolved) => {
+                push_named(out, b" Resolved", &resolved.row)?;
+                write_row(out, &resolved.form, resolved.ids, resolved.mode)
             }
             EventReply::Done { closings } => push_named(out, b" Done", closings),
-            EventReply::Claimed { number } => push_named(out, b" Claimed", number),
+            EventReply::Claimed(given) => push_named(out, b" Claimed", &given.number),
             EventReply::Absent => push_name(out, b" Absent"),
             EventReply::Taken => push_name(out, b" Taken"),
             EventReply::Given => push_name(out, b" Given"),
             EventReply::Drawn { number } => push_named(out, b" Drawn", number),
             EventReply::Inserted { number } => push_named(out, b" Inserted", number),
-            EventReply::Found { number } => push_named(out, b" Found", number),
-            EventReply::Closing { fd, slot } => push_two(out, b" Closing", fd, slot),
+            EventReply::Found(given) => push_named(out, b" Found", &given.number),
+            EventReply::Closing(first) => push_two(out, b" Closing", &first.fd, &first.slot),
             EventReply::Pinned { row, fd } => push_two(out, b" Pinned", row, fd),
             EventReply::Cleared { era, closings } => push_two(out, b" Cleared", era, closings),
             EventReply::Refused(refusal) => push_named(out, b" Refused", refusal),

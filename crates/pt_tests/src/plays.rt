@@ -4,7 +4,7 @@ use pt_iface::{Context, Request};
 use pt_job::AnyJob;
 use pt_maps::IdMap;
 use pt_req::{Config, Plan};
-use pt_session::{EventRefusal, EventReply, Negotiated, RowForm};
+use pt_session::{EventRefusal, EventReply, GivenNumber, Negotiated, Resolved, RowForm};
 use pt_show::Text;
 use std::alloc::Global;
 use std::mem::forget;
@@ -61,7 +61,7 @@ impl Told {
             }),
             Told::Resolved => Told::by_tables(resolved()),
             Told::Absent => Told::by_tables(EventReply::Absent),
-            Told::Claimed(number) => Told::by_tables(EventReply::Claimed { number }),
+            Told::Claimed(number) => Told::by_tables(EventReply::Claimed(GivenNumber { number })),
             Told::Taken => Told::by_tables(EventReply::Taken),
             Told::Given => Told::by_tables(EventReply::Given),
             Told::Drawn(number) => Told::by_tables(EventReply::Drawn { number }),
@@ -77,7 +77,7 @@ impl Told {
 }
 
 fn resolved() -> EventReply {
-    EventReply::Resolved {
+    EventReply::Resolved(Resolved {
         row: 0,
         form: RowForm::File(Fd(4)),
         ids: ObjIds {
@@ -86,7 +86,7 @@ fn resolved() -> EventReply {
             mnt_id: 1,
         },
         mode: 16877,
-    }
+    })
 }
 
 fn a_stat() -> Stat {

@@ -18,9 +18,8 @@ use pt_frame::{Asked, Heard, Stop, bares};
 use pt_host::{Errno, Fd, HostOp, HostSeat, Time, TimeSet};
 use pt_iface::{Answer, SetattrIn, SetattrValid};
 use pt_maps::IdMap;
-use pt_req::{
-    Plan, Resolved, drops_fsetid, file_of, is_bad_offset, open_row, pin_handle, without_fsetid,
-};
+use pt_req::{Plan, drops_fsetid, file_of, is_bad_offset, open_row, pin_handle, without_fsetid};
+use pt_session::Resolved;
 
 /// The id that leaves an owner as it is.
 const NO_ID: u32 = 4294967295;

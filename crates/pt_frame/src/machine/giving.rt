@@ -147,9 +147,9 @@ pub fn taken_in(reply: &ActReply) -> Taken
     ensures { result ≡ taken_in reply.now }
 {
     match reply {
-        ActReply::Event(EventReply::Closing { fd, slot }) => Taken::Fd {
-            fd: *fd,
-            slot: *slot,
+        ActReply::Event(EventReply::Closing(first)) => Taken::Fd {
+            fd: first.fd,
+            slot: first.slot,
         },
         _ => Taken::Nothing,
     }

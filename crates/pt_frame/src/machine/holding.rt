@@ -169,41 +169,47 @@ fn hold_changed(event: &Event<'_>, reply: &EventReply, holds: &mut Holds)
     ensures length { length holds.new ≤ length holds.old + deed_brings (Changes (change_of event.now)) }
 {
     match (event, reply) {
-        (Event::Resolve { .. }, EventReply::Resolved { row, form, .. }) => {
-            let fd = row_fd(form);
-            lay(Hold::Pin { row: *row, fd }, holds);
+        (Event::Resolve { .. }, EventReply::Resolved(resolved)) => {
+            let fd = row_fd(&resolved.form);
+            lay(
+                Hold::Pin {
+                    row: resolved.row,
+                    fd,
+                },
+                holds,
+            );
         }
         (Event::TakeFd, EventReply::Taken) => slot(holds),
-        (Event::Claim { era, .. }, EventReply::Claimed { number }) => {
+        (Event::Claim(claim), EventReply::Claimed(given)) => {
             lay(
                 Hold::Count {
-                    era: *era,
+                    era: claim.era,
+                    number: given.number,
+                },
+                holds,
+            );
+        }
+        (Event::Insert(new), EventReply::Inserted { number }) => {
+            hand_form(&new.form, holds);
+            lay(
+                Hold::Count {
+                    era: new.era,
                     number: *number,
                 },
                 holds,
             );
         }
-        (Event::Insert { era, form, .. }, EventReply::Inserted { number }) => {
-            hand_form(form, holds);
+        (Event::Insert(new), EventReply::Found(given)) => {
             lay(
                 Hold::Count {
-                    era: *era,
-                    number: *number,
+                    era: new.era,
+                    number: given.number,
                 },
                 holds,
             );
         }
-        (Event::Insert { era, .. }, EventReply::Found { number }) => {
-            lay(
-                Hold::Count {
-                    era: *era,
-                    number: *number,
-                },
-                holds,
-            );
-        }
-        (Event::InsertRoot { form, .. }, EventReply::Inserted { .. }) => hand_form(form, holds),
-        (Event::InsertHandle { fd, .. }, EventReply::Inserted { .. }) => hand(*fd, holds),
+        (Event::InsertRoot(new), EventReply::Inserted { .. }) => hand_form(&new.form, holds),
+        (Event::InsertHandle(new), EventReply::Inserted { .. }) => hand(new.fd, holds),
         (Event::PinHandle { .. }, EventReply::Pinned { row, fd }) => {
             lay(Hold::HandlePin { row: *row, fd: *fd }, holds);
         }

@@ -11,12 +11,11 @@ ghost use Rattle.pt_req.specs.Parts.{file_of, open_form, open_inode, open_row};
 use crate::begun::BegunSession;
 use crate::parts::options::{inode_flags, without_nofollow};
 use crate::plan::Plan;
-use crate::replies::Resolved;
 use crate::steps::{reopen, resolve};
 use pt_frame::{Asked, Heard, Stop};
 use pt_host::{Errno, Fd};
 use pt_iface::Answer;
-use pt_session::RowForm;
+use pt_session::{Resolved, RowForm};
 
 /// Linux's kinds of what has contents, the mode's bits above 4096.
 const REGULAR: u32 = 8;
