@@ -1,5 +1,7 @@
 -- One step of a job belongs to what it has to do.
 use Rattle.std.proofs.Common.{◌≡◌, ◌≤◌, ◌<◌, ◌+◌, ◌*◌, ◌∙◌, inl, inr, ℕ, Bool, Option, Some, None, refl, ap, sym, subst}
+use Rattle.pt_host.specs.Call.{Call}
+use Rattle.pt_host.specs.declared.reply.HostReply.{HostReply}
 use Rattle.pt_host.specs.declared.seat.HostSeat.{HostSeat}
 use Rattle.pt_session.specs.Change.{Change}
 use Rattle.pt_session.specs.Happens.{Happens}
@@ -12,7 +14,7 @@ use Rattle.pt_frame.specs.Grammar.{told_inserted, restores}
 use Rattle.pt_frame.specs.Past.{lost_after}
 use Rattle.pt_frame.specs.Replies.{closings_in, inserted_by}
 use Rattle.pt_host.specs.Relation.{HostRelation}
-use Rattle.pt_frame.specs.Made.{Made}
+use Rattle.pt_frame.specs.Made.{Made, Makes}
 use Rattle.pt_frame.specs.declared.act.Act.{Act}
 use Rattle.pt_frame.specs.declared.act.ActReply.{ActReply}
 use Rattle.pt_frame.specs.declared.act.ActReply.TheVariants.{Event, Host, NoCopy}
@@ -25,28 +27,43 @@ use Rattle.pt_req.specs.declared.plan.Plan.{Plan}
 use Rattle.pt_fs.specs.Advances.{IsWanted, Advances, inserted_in}
 use Rattle.pt_fs.specs.Jobs.{no_seat}
 use Rattle.pt_fs.specs.Recorded.{kept_of}
-use Rattle.pt_fs.specs.Stepped.{Makes, Stepped}
-use Rattle.pt_fs.specs.Trace.{IsShown, MadeFrom, told_by}
+use Rattle.pt_fs.specs.Stepped.{CallsFrom, MadeWanted, Stepped}
+use Rattle.pt_fs.specs.Trace.{IsShown, MadeFrom, MadeFromBy, told_by}
 use Rattle.pt_fs.specs.declared.machine.Machine.{Machine}
 
 -- an event needs no seat, nor does what was not made
-module _ {H : Type 0} (does : HostRelation H) (host : H) where
-  happened_from : (asked : Change) (reply : EventReply) (seat : Option HostSeat) (tables tables' : Tables) →
-      Happens tables asked reply tables' →
-      MadeFrom does (Some (Changes asked)) (Event reply) host seat tables host seat tables'
-  happened_from asked reply (Some seat) tables tables' happens = (happens, refl, refl)
-  happened_from asked reply None tables tables' happens = (no_seat, (happens, refl, refl))
+module _ {H A : Type 0} (does : HostRelation H) (makes : Makes A) (host : H) where
+  happened_from : (asked : Change) (reply : EventReply) (seat : Option HostSeat) (access access' : A) →
+      makes access asked reply access' →
+      MadeFromBy does makes (Some (Changes asked)) (Event reply) host seat access host seat access'
+  happened_from asked reply (Some seat) access access' made = (made, refl, refl)
+  happened_from asked reply None access access' made = (no_seat, (made, refl, refl))
 
-  unmade : (seat : Option HostSeat) (tables : Tables) → MadeFrom does None NoCopy host seat tables host seat tables
-  unmade (Some seat) tables = (refl, refl, refl)
-  unmade None tables = (no_seat, (refl, refl, refl))
+  unmade : (seat : Option HostSeat) (access : A) → MadeFromBy does makes None NoCopy host seat access host seat access
+  unmade (Some seat) access = (refl, refl, refl)
+  unmade None access = (no_seat, (refl, refl, refl))
 
-  pub happened : (act : Act) (event : Change) (reply : EventReply) (seat : Option HostSeat) (tables tables' : Tables) →
-      deed_of act ≡ Changes event → Happens tables event reply tables' →
-      MadeFrom does (Some (deed_of act)) (Event reply) host seat tables host seat tables'
-  happened act event reply seat tables tables' is happens =
-      subst (λ (deed : Deed). MadeFrom does (Some deed) (Event reply) host seat tables host seat tables') (sym is)
-      (happened_from event reply seat tables tables' happens)
+  pub happened : (act : Act) (event : Change) (reply : EventReply) (seat : Option HostSeat) (access access' : A) →
+      deed_of act ≡ Changes event → makes access event reply access' →
+      MadeFromBy does makes (Some (deed_of act)) (Event reply) host seat access host seat access'
+  happened act event reply seat access access' is made =
+      subst (λ (deed : Deed). MadeFromBy does makes (Some deed) (Event reply) host seat access host seat access')
+      (sym is) (happened_from event reply seat access access' made)
+
+  called_from : (asked : Call) (reply : HostReply) (seat seat' : Option HostSeat) (host' : H) (access : A) →
+      CallsFrom does asked reply host seat host' seat' →
+      MadeFromBy does makes (Some (Calls asked)) (Host reply) host seat access host' seat' access
+  called_from asked reply (Some seat) (Some seat') host' access calls = (calls, refl)
+  called_from asked reply None None host' access calls = (calls.0, (calls.1, refl))
+  called_from asked reply (Some seat) None host' access calls = absurd calls
+  called_from asked reply None (Some seat') host' access calls = absurd calls
+
+  pub called : (act : Act) (call : Call) (reply : HostReply) (seat seat' : Option HostSeat) (host' : H) (access : A) →
+      deed_of act ≡ Calls call → CallsFrom does call reply host seat host' seat' →
+      MadeFromBy does makes (Some (deed_of act)) (Host reply) host seat access host' seat' access
+  called act call reply seat seat' host' access is calls =
+      subst (λ (deed : Deed). MadeFromBy does makes (Some deed) (Host reply) host seat access host' seat' access)
+      (sym is) (called_from call reply seat seat' host' access calls)
 
 -- an act with bytes of its own is of the same deed
 kept_deed : (deed : Deed) → kept_deed_of (kept_of deed) ≡ Some deed
@@ -69,7 +86,7 @@ module _ {H : Type 0} (does : HostRelation H) (owed : Grammar) (act : Act) (want
     (host : H) (seat : Option HostSeat) (tables : Tables) (told : ActReply) where
   pub makes : (reply : ActReply) (host' : H) (seat' : Option HostSeat) (tables' : Tables) →
       MadeFrom does (Some (deed_of act)) reply host seat tables host' seat' tables' → IsShown reply told →
-      Makes does owed host seat tables (kept_of (deed_of act)) told host' seat' tables'
+      MadeWanted does owed host seat tables (kept_of (deed_of act)) told host' seat' tables'
   makes reply host' seat' tables' made shown = record {
     reply = reply;
     wanted = subst (λ (deed : Option Deed). IsWanted owed deed) (sym (kept_deed (deed_of act)))
@@ -80,11 +97,11 @@ module _ {H : Type 0} (does : HostRelation H) (owed : Grammar) (act : Act) (want
   }
 
   pub makes_none : MayFailToCopy (deed_of act) → IsShown NoCopy told →
-      Makes does owed host seat tables kept_act.NoCopy told host seat tables
+      MadeWanted does owed host seat tables kept_act.NoCopy told host seat tables
   makes_none fails shown = record {
     reply = NoCopy;
     wanted = wanted_none owed act wants fails;
-    made = unmade does host seat tables;
+    made = unmade does Happens host seat tables;
     shown = shown;
   }
 
@@ -232,7 +249,7 @@ pub stepped : {H : Type 0} (does : HostRelation H) (faults : H → ℕ) → Prom
     (start : HostSeat) (job : ℕ) (host host' : H) (seat seat' : Option HostSeat) (was now : Machine)
     (tables tables' : Tables) (act : KeptAct) (shown : ActReply) (restoring : Bool) →
     now.place ≡ was.place →
-    Makes does (owes plan start was.state) host seat tables act shown host' seat' tables' →
+    MadeWanted does (owes plan start was.state) host seat tables act shown host' seat' tables' →
     IsChosen (after shown (owes plan start was.state)) (owes plan start now.state) →
     restoring ≡ restores_now was.state → restoring ≡ restores (owes plan start was.state) →
     lost_of now.state ≡ lost_after (lost_of was.state) (restores_now was.state) shown →

@@ -8,6 +8,7 @@ use Rattle.pt_iface.specs.declared.request.Context.{Context}
 use Rattle.pt_iface.specs.declared.request.Request.TheVariants as request
 use Rattle.pt_frame.specs.Deed.{Step}
 use Rattle.pt_frame.specs.Grammar.{Grammar}
+use Rattle.pt_frame.specs.declared.finish.Finish.TheVariants as finish
 use Rattle.pt_job.specs.Pattern.{Pattern, EditPattern, Asked, Requests, Edits, grammar_for}
 use Rattle.pt_req.specs.declared.plan.Plan.{Plan}
 use Rattle.pt_fs.specs.declared.job.Job.{Job}
@@ -59,6 +60,6 @@ job_grammar plan job = grammar_for plan (job_start job) (asked_of job)
 
 -- the steps and the answer belong to the job's request, or to its edit
 abbrev pub IsAnsweredBy : Plan → Job → List Step → Answer → Type 0
-IsAnsweredBy plan (job.Request who seat asked) steps answer = Pattern plan seat who asked steps answer
-IsAnsweredBy plan (job.OpenRoot seat) steps answer = Pattern plan seat daemon request.Root steps answer
-IsAnsweredBy plan (job.Edit edit) steps answer = EditPattern edit steps answer
+IsAnsweredBy plan (job.Request who seat asked) steps answer = Pattern plan seat who asked steps (finish.Answer answer)
+IsAnsweredBy plan (job.OpenRoot seat) steps answer = Pattern plan seat daemon request.Root steps (finish.Answer answer)
+IsAnsweredBy plan (job.Edit edit) steps answer = EditPattern edit steps (finish.Answer answer)

@@ -22,7 +22,7 @@ use Rattle.pt_fit.specs.Entered.{EntryPlaces, IsEntered, name_asked}
 use Rattle.pt_fit.specs.Handled.{KeepsHandle}
 use Rattle.pt_law.specs.Agreed.{agreed_after}
 use Rattle.pt_law.specs.Giving.{up_to}
-use Rattle.pt_law.specs.Laws.{ObjectOf, AreDistinct, HasObject, IsCounted, IsStanding, Serves, TellsOvertaken}
+use Rattle.pt_law.specs.Laws.{ObjectOf, AreDistinct, HasObject, IsCounted, IsStanding, IsOpenAsResolved, TellsOvertaken}
 use Rattle.pt_law.specs.Laws.{IsOvertaken, TellsGiven, IsHonoured, NamesOpen, LeavesRows}
 use Rattle.pt_law.specs.Ledger.{given, inserted, handle_inserted, standing, slots_taken, slots_given}
 use Rattle.pt_law.specs.Origins.{WasRoot, WasNamed}
@@ -107,7 +107,7 @@ KeepsOptions plan jobs so_far now = now.negotiated ≡ agreed_after (decided_by 
 
 -- every handle's descriptor is open on the object that its number had when it was resolved for the handle's opening
 abbrev pub ServesEach : World → Type 0
-ServesEach now = (row : HandleRow) → IsHandleRow now.tables row → Serves now row
+ServesEach now = (row : HandleRow) → IsHandleRow now.tables row → IsOpenAsResolved now row
 
 -- no number but the root's is inserted twice, and no handle
 pub record InsertsOnce (trace : List TraceStep) : Type 0 where

@@ -3,12 +3,13 @@ use Rattle.std.specs.Prelude.{◌≡◌, ◌≤◌, ◌⊎◌, ℕ, ◌+◌, ◌
 use Rattle.std.specs.Prelude.{slice_get}
 use Rattle.std.specs.Prelude.{slice_set, if◌then◌else◌}
 use Rattle.pt_host.specs.declared.seat.HostSeat.{HostSeat}
+use Rattle.pt_session.specs.Happens.{Happens}
 use Rattle.pt_session.specs.Tables.{Tables}
 use Rattle.pt_iface.specs.declared.answer.Answer.{Answer}
 use Rattle.pt_frame.specs.Deed.{Deed, HoldsReplyBytes, Step, kept_deed_of}
 use Rattle.pt_frame.specs.Replies.{closings_in}
 use Rattle.pt_host.specs.Relation.{HostRelation}
-use Rattle.pt_frame.specs.Made.{Made}
+use Rattle.pt_frame.specs.Made.{Makes, MadeBy}
 use Rattle.pt_frame.specs.Past.{past_of}
 use Rattle.pt_job.specs.Pattern.{bound_for, most_inserted}
 use Rattle.pt_frame.specs.declared.act.ActReply.{ActReply}
@@ -26,7 +27,66 @@ step_of step = record { deed = kept_deed_of step.act; reply = step.reply }
 abbrev pub IsShown : ActReply → ActReply → Type 0
 IsShown reply shown = (shown ≡ reply) ⊎ ((shown ≡ act_reply.NoCopy) × HoldsReplyBytes reply)
 
--- a step of a job that has a seat, which may be another after it, or of one that has none
+-- A step of a job that has a seat, which may be another after it, or of one that has none. The relation of events is a
+-- parameter, as that of the host is.
+abbrev pub MadeFromBy :
+    {H A : Type 0} →
+    (does : HostRelation H) →
+    (makes : Makes A) →
+    (deed : Option Deed) →
+    (reply : ActReply) →
+    (host : H) →
+    (seat : Option HostSeat) →
+    (access : A) →
+    (host' : H) →
+    (seat' : Option HostSeat) →
+    (access' : A) →
+    Type 0
+MadeFromBy does makes deed reply host (Some seat) access host' (Some seat') access' =
+    MadeBy does makes deed reply host seat access host' seat' access'
+MadeFromBy does makes deed reply host None access host' None access' =
+    (left : HostSeat) × MadeBy does makes deed reply host no_seat access host' left access'
+MadeFromBy does makes deed reply host seat access host' seat' access' = ⊥
+
+-- the step was made from the seat of the job that owns it, and no other seat changed
+abbrev pub MadeAtBy :
+    {H A : Type 0} →
+    (does : HostRelation H) →
+    (makes : Makes A) →
+    (step : TraceStep) →
+    (host : H) →
+    (seats : List (Option HostSeat)) →
+    (access : A) →
+    (host' : H) →
+    (seats' : List (Option HostSeat)) →
+    (access' : A) →
+    Type 0
+MadeAtBy does makes step host seats access host' seats' access' =
+    (seat : Option HostSeat) × (seat' : Option HostSeat) × (slice_get seats step.job ≡ Some seat)
+    × (seats' ≡ slice_set seats step.job seat')
+    × MadeFromBy does makes (kept_deed_of step.act) step.reply host seat access host' seat' access'
+
+-- the trace leads from host, seats and access to these, each step from where the one before it led
+abbrev pub TraceRunsBy :
+    {H A : Type 0} →
+    (does : HostRelation H) →
+    (makes : Makes A) →
+    (trace : List TraceStep) →
+    (host : H) →
+    (seats : List (Option HostSeat)) →
+    (access : A) →
+    (host' : H) →
+    (seats' : List (Option HostSeat)) →
+    (access' : A) →
+    Type 0
+TraceRunsBy does makes [] host seats access host' seats' access' =
+    (host' ≡ host) × (seats' ≡ seats) × (access' ≡ access)
+TraceRunsBy {H} {A} does makes (step ∷ steps) host seats access host' seats' access' =
+    (host1 : H) × (seats1 : List (Option HostSeat)) × (access1 : A)
+    × MadeAtBy does makes step host seats access host1 seats1 access1
+    × TraceRunsBy does makes steps host1 seats1 access1 host' seats' access'
+
+-- over the session's own tables
 abbrev pub MadeFrom :
     {H : Type 0} →
     (does : HostRelation H) →
@@ -39,13 +99,8 @@ abbrev pub MadeFrom :
     (seat' : Option HostSeat) →
     (tables' : Tables) →
     Type 0
-MadeFrom does deed reply host (Some seat) tables host' (Some seat') tables' =
-    Made does deed reply host seat tables host' seat' tables'
-MadeFrom does deed reply host None tables host' None tables' =
-    (left : HostSeat) × Made does deed reply host no_seat tables host' left tables'
-MadeFrom does deed reply host seat tables host' seat' tables' = ⊥
+MadeFrom does = MadeFromBy does Happens
 
--- the step was made from the seat of the job that owns it, and no other seat changed
 abbrev pub MadeAt :
     {H : Type 0} →
     (does : HostRelation H) →
@@ -57,12 +112,8 @@ abbrev pub MadeAt :
     (seats' : List (Option HostSeat)) →
     (tables' : Tables) →
     Type 0
-MadeAt does step host seats tables host' seats' tables' =
-    (seat : Option HostSeat) × (seat' : Option HostSeat) × (slice_get seats step.job ≡ Some seat)
-    × (seats' ≡ slice_set seats step.job seat')
-    × MadeFrom does (kept_deed_of step.act) step.reply host seat tables host' seat' tables'
+MadeAt does = MadeAtBy does Happens
 
--- the trace leads from host, seats and tables to these, each step from where the one before it led
 abbrev pub TraceRuns :
     {H : Type 0} →
     (does : HostRelation H) →
@@ -74,11 +125,7 @@ abbrev pub TraceRuns :
     (seats' : List (Option HostSeat)) →
     (tables' : Tables) →
     Type 0
-TraceRuns does [] host seats tables host' seats' tables' = (host' ≡ host) × (seats' ≡ seats) × (tables' ≡ tables)
-TraceRuns {H} does (step ∷ steps) host seats tables host' seats' tables' =
-    (host1 : H) × (seats1 : List (Option HostSeat)) × (tables1 : Tables)
-    × MadeAt does step host seats tables host1 seats1 tables1
-    × TraceRuns does steps host1 seats1 tables1 host' seats' tables'
+TraceRuns does = TraceRunsBy does Happens
 
 -- those that there are, in their order
 abbrev pub seated : List (Option HostSeat) → List HostSeat

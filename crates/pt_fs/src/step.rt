@@ -1,27 +1,26 @@
 ghost use Rattle.std.specs.Prelude.{◌+◌, ◌≤◌, ◌≡◌, true, false, Some, None, IfOk, OnOk, OnErr};
 ghost use Rattle.pt_host.specs.Call.{call_of};
-ghost use Rattle.pt_session.specs.Tables.{Tables};
-ghost use Rattle.pt_frame.specs.Deed.{Calls, deed_of};
+ghost use Rattle.pt_frame.specs.Deed.{deed_of};
 ghost use Rattle.pt_frame.specs.Grammar.{is_end};
-ghost use Rattle.pt_frame.specs.declared.act.ActReply.TheVariants as told;
 ghost use Rattle.pt_frame.specs.declared.act.KeptAct.{KeptAct};
+ghost use Rattle.pt_job.specs.Access.{HasSpare};
 ghost use Rattle.pt_job.specs.Machine.Job.{owes, is_finished, lost_of};
-ghost use Rattle.pt_fs.specs.Stepped.{Makes, Stepped};
-ghost use Rattle.pt_fs.specs.Trace.{MadeFrom};
+ghost use Rattle.pt_fs.specs.Stepped.{CallsFrom, MadeWanted, Stepped};
+ghost use Rattle.pt_fs.specs.Trace.{MadeFromBy};
 ghost use Rattle.pt_fs.specs.declared.trace.TraceStep.{TraceStep};
 
 use crate::machine::{Machine, no_seat};
 use crate::record::{Record, WrittenAct};
 use pt_frame::{Act, ActReply, Want};
 use pt_host::{Errno, Host, HostOp, HostReply, HostSeat};
+use pt_job::SessionAccess;
 use pt_req::Plan;
 use pt_session::Session;
 use std::alloc::{AllocError, Global};
 
 /// Makes one call of a job that has this seat, or none.
 fn call_from<H: Host>(host: &mut H, seat: &mut Option<HostSeat>, op: &HostOp<'_>) -> HostReply
-    ensures { (tables : Tables) → MadeFrom H.does (Some (Calls (call_of op.now))) (told.Host result) host.old seat.old
-        tables host.new seat.new tables }
+    ensures { CallsFrom H.does (call_of op.now) result host.old seat.old host.new seat.new }
 {
     match seat {
         Some(seat) => host.call(seat, op),
@@ -31,17 +30,18 @@ fn call_from<H: Host>(host: &mut H, seat: &mut Option<HostSeat>, op: &HostOp<'_>
 
 /// Makes one act of a job that has this seat, or none. An event of the tables needs no seat, so none is looked at.
 #[inline(always)]
-fn make_from<H: Host>(
+fn make_from<A: SessionAccess, H: Host>(
     host: &mut H,
-    session: &mut Session,
+    access: &mut A,
     seat: &mut Option<HostSeat>,
     act: &Act<'_>,
 ) -> ActReply
-    ensures { MadeFrom H.does (Some (deed_of act.now)) result host.old seat.old session.old host.new seat.new
-        session.new }
+    requires { HasSpare (A.spare_of access.old) 1 }
+    ensures { MadeFromBy H.does A.makes (Some (deed_of act.now)) result host.old seat.old access.old host.new seat.new
+        access.new }
 {
     match act {
-        Act::Event(event) => ActReply::Event(session.event(event)),
+        Act::Event(event) => ActReply::Event(access.event(event)),
         Act::Host(op) => ActReply::Host(call_from(host, seat, op)),
     }
 }
@@ -64,8 +64,8 @@ fn make_wanted<H: Host, R: Record>(
     requires going { is_end (owes plan.now start.now machine.now.state) ≡ false }
     ensures made { (act : KeptAct)
         × OnOk result (R.wrote writer.old (record { job = job; act = act; reply = reply.new }) writer.new)
-        × Makes H.does (owes plan.now start.now machine.now.state) host.old seat.old session.old act reply.new host.new
-        seat.new session.new }
+        × MadeWanted H.does (owes plan.now start.now machine.now.state) host.old seat.old session.old act reply.new
+        host.new seat.new session.new }
     ensures room { OnOk result (R.room writer.old ≤ R.room writer.new + 1) }
     ensures unwritten { OnErr result (R.unwritten writer.old writer.new) }
     ensures full { OnErr result (R.room writer.old ≡ 0) }

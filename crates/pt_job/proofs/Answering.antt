@@ -14,6 +14,7 @@ use Rattle.pt_frame.specs.Past.{no_past}
 use Rattle.pt_frame.specs.Tended.{IsUncut, Tended}
 use Rattle.pt_frame.specs.declared.act.ActReply.{ActReply}
 use Rattle.pt_frame.specs.declared.act.ActReply.TheVariants.{Event, Host, NoCopy}
+use Rattle.pt_frame.specs.declared.finish.Finish.TheVariants.{Answer}
 use Rattle.pt_frame.proofs.Ending.{det_framed}
 use Rattle.pt_frame.proofs.Sparing.{ran_out}
 use Rattle.pt_frame.proofs.Tending.{tended_framed}
@@ -57,6 +58,6 @@ is_determined plan seat (Requests who asked) = det_framed seat (tree_of plan sea
 is_determined plan seat (Edits edit) = λ reply. tt
 
 pub has_cause : (plan : Plan) (seat : HostSeat) (who : Context) (asked : Request) (steps : List Step) →
-    Pattern plan seat who asked steps NoMemory → RanOut steps
+    Pattern plan seat who asked steps (Answer NoMemory) → RanOut steps
 has_cause plan seat who asked steps b =
     ran_out seat (tree_of plan seat who asked) steps (requests_spare plan seat who asked) b

@@ -1,3 +1,4 @@
 pub mod Beginning
 pub mod Walking
 pub mod Answering
+pub mod TakenWhole

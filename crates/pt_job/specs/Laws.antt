@@ -10,6 +10,7 @@ use Rattle.pt_frame.specs.Memory.{RanOut}
 use Rattle.pt_frame.specs.Past.{no_past}
 use Rattle.pt_frame.specs.Sparing.{IsSparing}
 use Rattle.pt_frame.specs.Tended.{Tended, Tends}
+use Rattle.pt_frame.specs.declared.finish.Finish.TheVariants.{Answer}
 use Rattle.pt_req.specs.declared.plan.Plan.{Plan}
 use Rattle.pt_job.specs.Pattern.{Asked, Pattern, grammar_for, tree_of}
 
@@ -35,4 +36,4 @@ JobsAreDetermined = (plan : Plan) (seat : HostSeat) (asked : Asked) → IsDeterm
 -- its own.
 abbrev pub NoMemoryIsCaused : Type 0
 NoMemoryIsCaused = (plan : Plan) (seat : HostSeat) (who : Context) (asked : Request) (steps : List Step) →
-    Pattern plan seat who asked steps NoMemory → RanOut steps
+    Pattern plan seat who asked steps (Answer NoMemory) → RanOut steps

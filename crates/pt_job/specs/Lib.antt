@@ -2,4 +2,6 @@
 pub mod Requests
 pub mod Pattern
 pub mod Laws
+pub mod Access
+pub mod Served
 pub mod Machine

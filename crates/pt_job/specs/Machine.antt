@@ -2,3 +2,4 @@
 pub mod Body
 pub mod Keeping
 pub mod Job
+pub mod Serving

@@ -2,14 +2,13 @@
 use Rattle.std.specs.Prelude.{ℕ, List}
 use Rattle.pt_host.specs.declared.edit.Edit.{Edit}
 use Rattle.pt_host.specs.declared.seat.HostSeat.{HostSeat}
-use Rattle.pt_iface.specs.declared.answer.Answer.{Answer}
 use Rattle.pt_iface.specs.declared.request.Context.{Context}
 use Rattle.pt_iface.specs.declared.request.Request.{Request}
 use Rattle.pt_iface.specs.declared.request.Request.TheVariants as request
 use Rattle.pt_frame.specs.Deed.{Step}
 use Rattle.pt_frame.specs.Edit.{edit_grammar}
 use Rattle.pt_frame.specs.Grammar.{Grammar, Belongs}
-use Rattle.pt_frame.specs.declared.finish.Finish.TheVariants as finish
+use Rattle.pt_frame.specs.declared.finish.Finish.{Finish}
 use Rattle.pt_frame.specs.Tree.{grammar_of_tree}
 use Rattle.pt_req.specs.declared.plan.Plan.{Plan}
 pub use Rattle.pt_job.specs.Requests.{tree_of}
@@ -18,12 +17,13 @@ pub use Rattle.pt_job.specs.Requests.{tree_of}
 abbrev pub grammar_of : Plan → HostSeat → Context → Request → Grammar
 grammar_of plan seat who asked = grammar_of_tree seat (tree_of plan seat who asked)
 
-abbrev pub Pattern : Plan → HostSeat → Context → Request → List Step → Answer → Type 0
-Pattern plan seat who asked steps answer = Belongs (grammar_of plan seat who asked) steps (finish.Answer answer)
+-- The steps are such as a job of this request may make, and it then ends so: with an answer, or with a lost seat.
+abbrev pub Pattern : Plan → HostSeat → Context → Request → List Step → Finish → Type 0
+Pattern plan seat who asked steps end = Belongs (grammar_of plan seat who asked) steps end
 
 -- An edit has no seat, and nobody asks.
-abbrev pub EditPattern : Edit → List Step → Answer → Type 0
-EditPattern edit steps answer = Belongs (edit_grammar edit) steps (finish.Answer answer)
+abbrev pub EditPattern : Edit → List Step → Finish → Type 0
+EditPattern edit steps end = Belongs (edit_grammar edit) steps end
 
 -- what a job asks: it serves a request of somebody, or edits the host's tree beside the requests
 pub data Asked : Type 0 where

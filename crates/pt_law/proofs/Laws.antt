@@ -17,7 +17,7 @@ use Rattle.pt_law.specs.World.{World, Turn, TablesGo, Runs, TablesRun, steps_of,
 use Rattle.pt_law.specs.Ledger.{closing_slot, slot_taken, slot_given, slots_taken, slots_given, carried, weighed}
 use Rattle.pt_law.specs.Ledger.{closing_has, fds_carried, open_count, given, inserted}
 use Rattle.pt_law.proofs.Flows.{fd_held, all_hold}
-use Rattle.pt_law.specs.Laws.{Serves, Starts, AreDistinct, HasObject, IsCounted, SlotsAddUp}
+use Rattle.pt_law.specs.Laws.{IsOpenAsResolved, Starts, AreDistinct, HasObject, IsCounted, SlotsAddUp}
 use Rattle.pt_law.specs.Discipline.{AreDisciplined, AreEnded}
 use Rattle.pt_law.specs.Laws.{AreKept, IsAtRest, LeavesRows}
 use Rattle.pt_frame.specs.declared.act.ActReply.{ActReply}
@@ -318,7 +318,7 @@ kept_law limit bound turns more start now s a r =
 -- each handle's descriptor is open on the object that its number had when it was resolved for the opening
 pub handles_law : (limit bound : ℕ) (turns more : List Turn) (start now : World) (row : HandleRow) →
     Starts limit start → AreDisciplined bound (turns ++ more) → Runs start turns now → IsHandleRow now.tables row →
-    Serves now row
+    IsOpenAsResolved now row
 handles_law limit bound turns more start now row s a r h =
     let v = reach limit bound turns more start now s a r in
     let o = each_taken (HandleOpen now.tree now.past) h.1 v.1.right.handled in

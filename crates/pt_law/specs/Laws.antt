@@ -65,8 +65,9 @@ pub record HasEnded (tables : Tables) (serial : ℕ) : Type 0 where
 
 -- a handle's descriptor is open on the object that its number had when, before the handle was inserted, its job had
 -- resolved that number last, or was given it
-abbrev pub Serves : World → HandleRow → Type 0
-Serves world row = (object : ℕ) × (world.past.objects row.serial ≡ Some object) × IsOpenOn world.tree row.fd object
+abbrev pub IsOpenAsResolved : World → HandleRow → Type 0
+IsOpenAsResolved world row =
+    (object : ℕ) × (world.past.objects row.serial ≡ Some object) × IsOpenOn world.tree row.fd object
 
 -- Jobs of an earlier session.
 

@@ -23,7 +23,7 @@ ghost use Rattle.pt_law.specs.World.{World, Turn, Runs, HostRuns, TablesGo, Tabl
 ghost use Rattle.pt_law.specs.Ledger.{given, inserted, handle_inserted, standing, summed, fd_given, fds_carried};
 ghost use Rattle.pt_law.specs.Laws.{ObjectOf, Starts, AreDistinct, HasObject};
 ghost use Rattle.pt_law.specs.Discipline.{AreDisciplined, AreEnded};
-ghost use Rattle.pt_law.specs.Laws.{Serves, IsCounted, IsStanding, HasEnded, SlotsAddUp, AreKept, NamesOpen};
+ghost use Rattle.pt_law.specs.Laws.{IsOpenAsResolved, IsCounted, IsStanding, HasEnded, SlotsAddUp, AreKept, NamesOpen};
 ghost use Rattle.pt_law.specs.Laws.{IsHonoured, IsOvertaken, TellsOvertaken, TellsGiven, BeginsFirst, IsAtRest};
 ghost use Rattle.pt_law.specs.Laws.{LeavesRows};
 ghost use Rattle.pt_law.specs.Agreed.{agreed_after, Decides};
@@ -92,7 +92,7 @@ pub fn every_told_run()
         HasObject now row }
     ensures handles { (limit bound : ℕ) (turns more : List Turn) (start now : World) (row : HandleRow) →
         Starts limit start → AreDisciplined bound (turns ++ more) → Runs start turns now →
-        IsHandleRow now.tables row → Serves now row }
+        IsHandleRow now.tables row → IsOpenAsResolved now row }
     ensures reopened { (limit bound : ℕ) (turns more : List Turn) (start now : World) → Starts limit start →
         AreDisciplined bound (turns ++ more) → Runs start turns now → ReopensResolved turns now }
     ensures origins { (limit bound : ℕ) (turns more : List Turn) (start now : World) (number object : ℕ) →

@@ -1,10 +1,11 @@
-use crate::one_directory::a_seat;
+use crate::one_directory::{a_host, a_seat};
 use crate::plays::{Told, a_plan, has_text};
 use pt_frame::{Finish, Want};
 use pt_host::{Bytes, Errno, HostSeat};
 use pt_iface::{Context, Request};
-use pt_job::{AnyJob, JobState};
+use pt_job::{AnyJob, JobState, SessionAccess, serve};
 use pt_req::Plan;
+use pt_session::Session;
 use std::alloc::Global;
 use std::mem::forget;
 use std::process::Abort;
@@ -151,6 +152,22 @@ fn unlinks<R: Abort>(rt: &R, alloc: Global) -> Option<bool> {
     Some(is_answer(alloc, job.finish(), b" Refused 13"))
 }
 
+/// The root is opened by one job, which is taken whole, and then named by one that takes the name `a` away.
+fn is_served<R: Abort>(rt: &R, alloc: Global) -> Option<bool> {
+    let plan = a_plan(alloc)?;
+    let mut session = Session::new(alloc, 5);
+    let mut host = a_host(false);
+    let mut seat = a_seat();
+    assert!(rt; session.spare().is_none(), "its room is bounded");
+    let root = AnyJob::begin(WHO, Request::Root);
+    let end = serve(&plan, &mut session, &mut host, &mut seat, root);
+    assert!(rt; is_answer(alloc, end, b" Done"), "the root is not opened");
+    assert_eq!(rt; session.live_after(None), Some((1, 2)), "it has no number");
+    let unlink = an_unlink(alloc, &plan)?;
+    let end = serve(&plan, &mut session, &mut host, &mut seat, unlink);
+    Some(is_answer(alloc, end, b" Refused 13"))
+}
+
 #[test]
 fn a_job_of_numbers_is_played_or_cut(rt: HostRuntime) {
     assert_eq!(rt; forgets(&rt, rt.alloc()), Some(true), "it forgets");
@@ -160,4 +177,13 @@ fn a_job_of_numbers_is_played_or_cut(rt: HostRuntime) {
 #[test]
 fn any_job_is_played(rt: HostRuntime) {
     assert_eq!(rt; unlinks(&rt, rt.alloc()), Some(true), "its call is refused");
+}
+
+#[test]
+fn a_job_is_taken_whole(rt: HostRuntime) {
+    assert_eq!(rt;
+        is_served(&rt, rt.alloc()),
+        Some(true),
+        "its call is refused"
+    );
 }

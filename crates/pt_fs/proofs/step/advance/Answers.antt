@@ -1,7 +1,7 @@
 use Rattle.std.proofs.Common.{refl}
 use Rattle.pt_frame.specs.declared.act.KeptAct.{KeptAct}
 use Rattle.pt_job.specs.Machine.Job.{owes}
-use Rattle.pt_fs.specs.Stepped.{Makes, Stepped}
+use Rattle.pt_fs.specs.Stepped.{MadeWanted, Stepped}
 use Rattle.pt_fs.proofs.Advancing.{stepped}
 use Rattle.pt_fs.proofs.step.advance.Given.{Over}
 use Rattle.pt_fs.proofs.step.advance.Goals.{After-take}
@@ -9,7 +9,7 @@ use Rattle.pt_fs.proofs.step.advance.Goals as goal
 
 -- the step that was made
 made : (g : Over) (c : After-take g) (act : KeptAct) →
-    Makes g.H.Host.does (owes c.args.plan.now c.args.start.now c.args.machine.now.state) c.args.host.now
+    MadeWanted g.H.Host.does (owes c.args.plan.now c.args.start.now c.args.machine.now.state) c.args.host.now
     c.args.seat.now c.args.session.now act c.make_wanted-written.new.reply c.make_wanted-written.new.host
     c.make_wanted-written.new.seat c.make_wanted-written.new.session →
     Stepped g.H.Host.does c.args.plan.now c.args.start.now c.args.job c.args.host.now c.args.seat.now

@@ -16,7 +16,7 @@ returns-in-Ok-Whole-clause-made g c =
           (λ wrote. wrote c.args.writer.now c.args.job (kept_of deed)
           (rw c.in-Ok-Whole.field-0-is at c.in-Ok-Whole.ensures.wrote)),
       makes g.H.Host.does owed c.in-Step.act c.in-Step.ensures c.args.host.now c.args.seat.now c.args.session.now
-          c.write_reply.new.reply c.make_from.result c.make_from.new.host c.make_from.new.seat c.make_from.new.session
+          c.write_reply.new.reply c.make_from.result c.make_from.new.host c.make_from.new.seat c.make_from.new.access
           c.make_from.ensures c.write_reply.ensures.shown,
     )
 
@@ -39,7 +39,7 @@ returns-in-Err-clause-made g c =
       tt,
       makes g.H.Host.does owed c.in-Step.act c.in-Step.ensures c.args.host.now c.args.seat.now c.args.session.now
           c.make_from-in-Err.result c.make_from-in-Err.result c.make_from-in-Err.new.host c.make_from-in-Err.new.seat
-          c.make_from-in-Err.new.session c.make_from-in-Err.ensures (inl refl),
+          c.make_from-in-Err.new.access c.make_from-in-Err.ensures (inl refl),
     )
 
 pub returns-in-Ok-Whole-clause-unwritten : goal.returns-in-Ok-Whole-clause-unwritten
