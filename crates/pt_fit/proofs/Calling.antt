@@ -21,11 +21,11 @@ use Rattle.pt_req.specs.Steps.{read_at, stat}
 use Rattle.pt_attr.specs.Steps.{count_of, do_call, read_link, stat_fs}
 use Rattle.pt_law.specs.Discipline.{Notes, notes_after}
 use Rattle.pt_law.specs.Keeps.{MayMake}
-use Rattle.pt_law.specs.Naming.{made}
 use Rattle.pt_fit.specs.Cause.{Asking}
 use Rattle.pt_fit.specs.Fit.{Fit}
 use Rattle.pt_fit.proofs.Parts.{FitOn, GoesAfter, Seen, held_as, looked_by, still}
 use Rattle.pt_fit.proofs.Refused.{IsHeeded, refused_by}
+use Rattle.pt_law.specs.World.{made}
 
 pub fit_read_at : {asked : Asking} {seen : List Seen} {holds : List Hold} {marks : List ℕ}
     {notes : Notes} (fd : Fd)

@@ -1,5 +1,6 @@
 -- A request that is answered with an entry comes to a lookup of the name that it asks for, whatever it did before.
 use Rattle.std.proofs.Common.{◌≡◌, ℕ, List, [], ◌∷◌, ◌++◌, Some, refl, ap, subst, ◌∙◌}
+use Rattle.pt_host.specs.Words.{Each}
 use Rattle.pt_host.specs.declared.ids.Fd.{Fd}
 use Rattle.pt_host.specs.declared.seat.HostSeat.{HostSeat}
 use Rattle.pt_host.specs.declared.op.KeptHostOp.TheVariants as call
@@ -35,16 +36,16 @@ use Rattle.pt_attr.specs.declared.parts.TwoFiles.{TwoFiles}
 use Rattle.pt_job.specs.Requests.{object_asked}
 use Rattle.pt_law.specs.Discipline.{AreDisciplined}
 use Rattle.pt_law.specs.Laws.{Starts}
-use Rattle.pt_law.specs.Naming.{made}
 use Rattle.pt_law.specs.Told.{AllMayBeTold}
-use Rattle.pt_law.specs.World.{Turn, World, steps_of}
+use Rattle.pt_law.specs.World.{Turn, World, Runs, steps_of, made}
 use Rattle.pt_fit.specs.Entered.{IsEntered, name_asked}
 use Rattle.pt_fit.specs.Fit.{MayAnswer}
-use Rattle.pt_fit.specs.Opened.{IsLookedUp}
+use Rattle.pt_law.proofs.Opening.{GivesNone}
+use Rattle.pt_fit.proofs.LookedUp.{IsLookedUp}
 use Rattle.pt_fit.proofs.Asked.{edit_passes_none, request_right}
-use Rattle.pt_fit.proofs.Entered.{placed_law}
+use Rattle.pt_fit.proofs.Entered.{entered_law}
 use Rattle.pt_fit.proofs.ObjectKinds.{Kind, Directory, Link, Node, make_named}
-use Rattle.pt_fit.proofs.Leading.{HasEntry, Leads, goes_on, none_told, refused_none, shut_none}
+use Rattle.pt_fit.proofs.Leading.{HasEntry, Leads, goes_on, none_told, refused_none, shut_gives, shut_none}
 use Rattle.pt_fit.proofs.Looking.{began, good_named, looked_up, looks, resolved, then_step}
 use Rattle.pt_fit.proofs.ObjectEntries.{made_by}
 
@@ -60,6 +61,7 @@ pub record EntryBy (plan : Plan) (asked : Asked) (entry : Entry) (steps : List S
   pub back : List Step
   pub all : steps ≡ made (Changes change.Begin) (Event (event.Began era agreed)) ∷ (front ++ (own ++ back))
   pub by : IsLookedUp plan era agreed parent name entry own
+  pub quiet : Each (λ (step : Step). GivesNone step.deed step.reply) back
 
 -- a call that tells nothing was Ok
 pub done_on : (seat : HostSeat) (next : RequestTree) (told : ActReply) (rest : List Step) (last : Answer) →
@@ -147,6 +149,7 @@ linked_up plan seat who inode newparent newname entry steps b =
       all = then_step g.are k.2 (m.are
           ∙ ap (λ (z : List Step). m.one ∷ m.other ∷ z) (c.are ∙ ap (λ (z : List Step). link ∷ z) l.are));
       by = subst (λ (e : Entry). IsLookedUp plan k.0 k.1 newparent newname e l.own) same l.by;
+      quiet = shut_gives seat (answer.Entry l.looked.entry) last l.rest refl l.on;
     }
   where
     same_entry : {given : Entry} → answer.Entry entry ≡ answer.Entry given → given ≡ entry
@@ -169,6 +172,7 @@ lookup_by plan seat who parent name entry steps b =
       back = e.3;
       all = e.4;
       by = e.5;
+      quiet = e.6;
     }
 
 made_up : (plan : Plan) (seat : HostSeat) (asked : Asked) (object : ObjectAsked) (its : Kind) (entry : Entry)
@@ -190,6 +194,7 @@ made_up plan seat asked object its entry steps names b =
       back = e.4;
       all = e.5;
       by = e.6;
+      quiet = e.7;
     }
 
 -- each request that may be answered with an entry
@@ -227,27 +232,18 @@ pub entry_named : (plan : Plan) (seat : HostSeat) (asked : Asked) (steps : List 
 entry_named plan seat asked steps entry t b =
     let e = entry_asked plan seat asked steps entry t b in (e.parent, e.name, e.names)
 
-pub entry_opened : (plan : Plan) (seat : HostSeat) (asked : Asked) (steps : List Step) (entry : Entry) →
-    AllMayBeTold steps → Belongs (grammar_for plan seat asked) steps (finish.Answer (answer.Entry entry)) →
-    (parent : ℕ) × (name : List ℕ) × (name_asked asked ≡ Some (parent, name)) × (era : ℕ) × (agreed : Negotiated)
-    × (front : List Step) × (own : List Step) × (back : List Step)
-    × (steps ≡ made (Changes change.Begin) (Event (event.Began era agreed)) ∷ (front ++ (own ++ back)))
-    × IsLookedUp plan era agreed parent name entry own
-entry_opened plan seat asked steps entry t b =
-    let e = entry_asked plan seat asked steps entry t b in
-    (e.parent, e.name, e.names, e.era, e.agreed, e.front, e.own, e.back, e.all, e.by)
-
+-- at the end of a run
 pub entry_entered : (limit bound : ℕ) (plan : Plan) (seat : HostSeat) (asked : Asked) (turns : List Turn)
-    (start : World) (j : ℕ) (entry : Entry) → Starts limit start → AreDisciplined bound turns →
+    (start end : World) (j : ℕ) (entry : Entry) → Starts limit start → AreDisciplined bound turns →
     AllMayBeTold (steps_of j turns) →
     Belongs (grammar_for plan seat asked) (steps_of j turns) (finish.Answer (answer.Entry entry)) →
     (parent : ℕ) × (name : List ℕ) × (name_asked asked ≡ Some (parent, name))
-    × IsEntered plan start turns j parent name entry
-entry_entered limit bound plan seat asked turns start j entry s d t b =
+    × (Runs start turns end → IsEntered plan end (steps_of j turns) j parent name entry)
+entry_entered limit bound plan seat asked turns start end j entry s d t b =
     let e = entry_asked plan seat asked (steps_of j turns) entry t b in (
       e.parent,
       e.name,
       e.names,
-      placed_law limit bound plan turns start j e.parent e.name entry e.era e.agreed e.front e.own e.back s d e.all
-          e.by,
+      (λ r. entered_law limit bound plan turns start end j e.parent e.name entry e.era e.agreed e.front e.own e.back s
+          d r e.all e.by e.quiet),
     )

@@ -23,8 +23,8 @@ use Rattle.pt_req.specs.Creating.{are_same}
 use Rattle.pt_req.specs.Options.{making_flags}
 use Rattle.pt_req.specs.Parts.{by_path}
 use Rattle.pt_req.specs.declared.plan.Plan.{Plan}
-use Rattle.pt_law.specs.Naming.{made}
 use Rattle.pt_fit.specs.Cause.{Asking, HasCause, SomeShows, WasTold, asking}
+use Rattle.pt_law.specs.World.{made}
 
 abbrev fd : ℕ → Fd
 fd number = record { 0 = number }
@@ -79,6 +79,30 @@ module _ (plan : Plan) (who : Context) (ext : Extensions) where
   -- but it does where the name is taken away because the guest asks for it
   pub taken_away : HasCause (asking plan who (request.Unlink 1 name)) (going ∷ []) eio
   taken_away = inr (inl (inl refl))
+
+  -- so do a node, a symbolic link and a directory
+  pub node_goes_again : SomeShows (asking plan who (request.Mknod 1 name 420 0 0 ext)) (going ∷ []) eio → ⊥
+  node_goes_again (inl shown) = absurd (cc)
+  node_goes_again (inr later) = later
+
+  pub link_goes_again : SomeShows (asking plan who (request.Symlink name 1 name ext)) (going ∷ []) eio → ⊥
+  link_goes_again (inl shown) = absurd (cc)
+  link_goes_again (inr later) = later
+
+  abbrev emptying : Step
+  emptying = made (Calls (call.RemoveDir (fd 3) name)) (Host (host.Refused eio))
+
+  pub directory_goes_again : SomeShows (asking plan who (request.Mkdir 1 name 493 0 ext)) (emptying ∷ []) eio → ⊥
+  directory_goes_again (inl shown) = absurd (cc)
+  directory_goes_again (inr later) = later
+
+  pub directory_taken_away : HasCause (asking plan who (request.Rmdir 1 name)) (emptying ∷ []) eio
+  directory_taken_away = inr (inl (inl refl))
+
+  -- an identity that cannot be taken on shows its error number
+  pub not_taken_on : (id : ℕ) →
+      HasCause (creating 0) (made (Calls (call.SetEuid id)) (Host (host.Fault eio)) ∷ []) eio
+  not_taken_on id = inr (inl (inl refl))
 
   -- what ends a descriptor shows nothing, nor does a capability that is not raised
   pub closed : SomeShows (creating 0) (made (Calls (call.Close (fd 4))) (Host (host.Fault eio)) ∷ []) eio → ⊥

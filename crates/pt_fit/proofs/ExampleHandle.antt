@@ -13,9 +13,9 @@ use Rattle.pt_frame.specs.declared.act.ActReply.TheVariants.{Event}
 use Rattle.pt_req.specs.Steps.{insert_handle, new_handle_of}
 use Rattle.pt_req.specs.declared.begun.BegunSession.{BegunSession}
 use Rattle.pt_law.specs.Branch.{GivesUpAfter}
-use Rattle.pt_law.specs.Naming.{made}
 use Rattle.pt_fit.specs.Handled.{KeepsHandle}
 use Rattle.pt_fit.proofs.HandleParts.{Yields}
+use Rattle.pt_law.specs.World.{made}
 
 module _ (session : BegunSession) (number : ℕ) (fd : Fd) (options : OpenOptions) where
   -- handle 5

@@ -29,8 +29,8 @@ use Rattle.pt_frame.specs.declared.act.ActReply.TheVariants.{Event, Host}
 use Rattle.pt_frame.specs.declared.finish.Finish.TheVariants as finish
 use Rattle.pt_req.specs.declared.plan.Plan.{Plan}
 use Rattle.pt_law.specs.Told.{AllMayBeTold}
-use Rattle.pt_law.specs.Naming.{made}
 use Rattle.pt_frame.specs.Tree.{on, go_on}
+use Rattle.pt_law.specs.World.{made}
 
 abbrev fd : ℕ → Fd
 fd number = record { 0 = number }

@@ -1,9 +1,10 @@
 -- A run of one step, which opens the shared directory as a root. That step might have opened either object of the
 -- host; in the world to which it led here it opened object 0, which so comes from it, and object 1 does not.
-use Rattle.std.proofs.Common.{◌≡◌, ◌≢◌, ℕ, ◌<◌, List, [], ◌∷◌, ◌++◌, refl, sym, ap, subst, ◌∙◌, arith, Some}
+use Rattle.std.proofs.Common.{◌≡◌, ◌≢◌, ⊎_elim, ℕ, ◌<◌, List, [], ◌∷◌, refl, sym, ap, ◌∙◌, arith, None, Some}
+use Rattle.std.proofs.lemmas.Bool.{cases_eq}
 use Rattle.pt_host.specs.Words.{set_at}
 use Rattle.pt_host.specs.Flags.{includes, o_path}
-use Rattle.pt_host.specs.Tree.{Opened, IsOpenOn, directory_kind, kind_of}
+use Rattle.pt_host.specs.Tree.{directory_kind, kind_of}
 use Rattle.pt_host.proofs.SeatAnswers.{unanswered}
 use Rattle.pt_host.specs.declared.ids.Fd.{Fd}
 use Rattle.pt_host.specs.declared.seat.HostSeat.{HostSeat}
@@ -15,9 +16,9 @@ use Rattle.pt_session.specs.Tables.{empty_tables}
 use Rattle.pt_frame.specs.Deed.{Calls}
 use Rattle.pt_req.specs.Parts.{by_path}
 use Rattle.pt_frame.specs.declared.act.ActReply.TheVariants.{Host}
-use Rattle.pt_law.specs.World.{World, Turn, turn_by, Goes, Runs, settled_by, no_past}
-use Rattle.pt_law.specs.Origins.{opening_root, RootPath, WasRoot}
-use Rattle.pt_law.proofs.Lists.{set_at_same}
+use Rattle.pt_law.specs.World.{World, Turn, turn_by, Goes, first_of, made, object_of, settled_by, story_by, no_past}
+use Rattle.pt_law.specs.Origins.{WasRoot}
+use Rattle.pt_law.proofs.Lists.{set_at_other, set_at_same}
 use Rattle.pt_fit.proofs.ExampleRace.{fd, tree, well, small_none, small_open, opened_by, none, start}
 
 -- a slash
@@ -25,7 +26,7 @@ abbrev slash : List ℕ
 slash = 47 ∷ []
 
 abbrev turn : Turn
-turn = turn_by 0 (opening_root slash by_path (fd 3))
+turn = turn_by 0 (made (Calls (call.OpenRoot slash by_path)) (Host (host.Ok (value.Fd (fd 3)))))
 
 -- the world in which the step has opened this object
 abbrev opened : Stat → Stat → ℕ → World
@@ -34,6 +35,11 @@ opened root file object = record {
   tables = empty_tables 5;
   past = settled_by no_past 0 (Calls (call.OpenRoot slash by_path)) (Host (host.Ok (value.Fd (fd 3)))) 0
       (tree root file (set_at 3 (opened_by object) none));
+  story = story_by (start root file)
+      (settled_by no_past 0 (Calls (call.OpenRoot slash by_path)) (Host (host.Ok (value.Fd (fd 3)))) 0
+      (tree root file (set_at 3 (opened_by object) none)))
+      (tree root file (set_at 3 (opened_by object) none)) 0 (Some (Calls (call.OpenRoot slash by_path)))
+      (Host (host.Ok (value.Fd (fd 3))));
 }
 
 -- the step leads there, whichever it opened
@@ -67,51 +73,32 @@ may_open root file seat apart kind object listed = record {
     refl,
   );
   past = refl;
+  story = refl;
 }
 
-never : (x : Turn) (before later : List Turn) → [] ≡ before ++ x ∷ later → ⊥
-never x [] later e = cc
-never x (b ∷ before) later e = cc
-
--- the one place of the run
-only : (x : Turn) (before later : List Turn) → turn ∷ [] ≡ before ++ x ∷ later →
-    (before ≡ []) × (turn ≡ x) × (later ≡ [])
-only x [] later e = (refl, cc, cc)
-only x (b ∷ before) later e = let k : [] ≡ before ++ x ∷ later = cc in absurd (never x before later k)
-
 -- it opened object 0
-pub came_from_it : (root file : Stat) → WasRoot (start root file) (turn ∷ []) (opened root file 0) 0
+pub came_from_it : (root file : Stat) → WasRoot (opened root file 0) 0
 came_from_it root file = (
   0,
-  record { before = []; later = []; path = slash; flags = by_path; fd = fd 3; in_turn = refl },
-  (λ at way. subst (λ (z : World). IsOpenOn z.tree (fd 3) 0) way.to_now
-      (record { object = 0; path_only = includes by_path.0 o_path }, set_at_same none 3 (opened_by 0), refl)),
+  set_at_same no_past.roots 0 (first_of None (object_of (set_at 3 (opened_by 0) none 3)))
+      ∙ ap object_of (set_at_same none 3 (opened_by 0)),
 )
 
-same_fd : (a b : Fd) → Host (host.Ok (value.Fd a)) ≡ Host (host.Ok (value.Fd b)) → a ≡ b
-same_fd a b e = cc
-
-some_same : {a b : Opened} → Some a ≡ Some b → a ≡ b
+some_same : {a b : ℕ} → Some a ≡ Some b → a ≡ b
 some_same e = cc
 
+none_some : {a : ℕ} → None ≡ Some a → ⊥
+none_some e = cc
+
 -- and not object 1
-pub came_from_nowhere : (root file : Stat) (seat : HostSeat) → root.ids ≢ file.ids →
-    kind_of root.mode ≡ directory_kind →
-    WasRoot (start root file) (turn ∷ []) (opened root file 0) 1 → ⊥
-came_from_nowhere root file seat apart kind was =
-    let place = was.1 in
-    let at = turn_by was.0 (opening_root place.path place.flags place.fd) in
-    let end = opened root file 0 in
-    let one = only at place.before place.later place.in_turn in
-    let way : RootPath (start root file) place end end = record {
-      at_open = start root file;
-      to_open = subst (λ b. Runs (start root file) b (start root file)) (sym one.0) refl;
-      opens = subst (λ t. Goes (start root file) t end) one.1 (may_open root file seat apart kind 0 (omega arith));
-      to_now = subst (λ l. Runs end l end) (sym one.2) refl;
-    } in
-    let on = was.2 end way in
-    let same = same_fd (fd 3) place.fd (ap (λ (t : Turn). t.step.reply) one.1) in
-    let here = subst (λ (f : Fd). IsOpenOn end.tree f 1) (sym same) on in
-    let is : Some here.0 ≡ opened_by 0 = sym here.1 ∙ set_at_same none 3 (opened_by 0) in
-    let none_is : 1 ≡ 0 = sym here.2 ∙ ap (λ (z : Opened). z.object) (some_same is) in
-    absurd (omega (arith, none_is))
+pub came_from_nowhere : (root file : Stat) → WasRoot (opened root file 0) 1 → ⊥
+unfolding came_from_it
+came_from_nowhere root file was = ⊎_elim
+    (λ (e : was.0 ≡ 0).
+    let is = ap (opened root file 0).past.roots e in
+    let one : 0 ≡ 1 = some_same (sym (came_from_it root file).1 ∙ sym is ∙ was.1) in
+    absurd (omega (arith, one)))
+    (λ (e : was.0 ≢ 0).
+    none_some (sym (set_at_other no_past.roots 0 (first_of None (object_of (set_at 3 (opened_by 0) none 3))) was.0 e)
+    ∙ was.1))
+    (cases_eq was.0 0)

@@ -41,17 +41,18 @@ use Rattle.pt_frame.specs.declared.act.ActReply.TheVariants.{Event, Host}
 use Rattle.pt_frame.specs.declared.finish.Finish.{Finish}
 use Rattle.pt_frame.specs.declared.finish.Finish.TheVariants as finish
 use Rattle.pt_req.specs.declared.plan.Plan.{Plan}
-use Rattle.pt_law.specs.World.{World, Turn, turn_by, Runs, steps_of, settled_by, no_past}
-use Rattle.pt_law.specs.Naming.{made}
+use Rattle.pt_law.specs.World.{World, Turn, turn_by, Runs, steps_of, settled_by, story_by, no_past, made}
 use Rattle.pt_law.specs.Discipline.{AreEnded}
 use Rattle.pt_fit.specs.Entered.{IsEntered}
-use Rattle.pt_fit.specs.Opened.{again}
+use Rattle.pt_fit.proofs.LookedUp.{again}
 use Rattle.pt_law.specs.Laws.{Starts}
 use Rattle.pt_fit.specs.Answered.{AreAnswered}
 use Rattle.pt_law.proofs.Lists.{set_at_same, set_at_other}
 use Rattle.pt_law.proofs.Laws.{ended_jobs}
 use Rattle.pt_fit.proofs.Answered.{run_ended}
 use Rattle.pt_fit.proofs.Entered.{entered_law}
+use Rattle.pt_fit.proofs.Looking.{looked_up}
+use Rattle.pt_law.specs.Story.{no_story}
 use Rattle.pt_frame.specs.Tree.{on, go_on}
 
 abbrev pub fd : ℕ → Fd
@@ -152,6 +153,8 @@ after_event world job asked told tables = record {
   tree = world.tree;
   tables = tables;
   past = settled_by world.past job (Changes asked) (Event told) world.tables.next_row world.tree;
+  story = story_by world (settled_by world.past job (Changes asked) (Event told) world.tables.next_row world.tree)
+      world.tree job (Some (Changes asked)) (Event told);
 }
 
 abbrev after_call : World → ℕ → Call → HostReply → Tree → World
@@ -159,6 +162,8 @@ after_call world job asked told tree = record {
   tree = tree;
   tables = world.tables;
   past = settled_by world.past job (Calls asked) (Host told) world.tables.next_row tree;
+  story = story_by world (settled_by world.past job (Calls asked) (Host told) world.tables.next_row tree) tree job
+      (Some (Calls asked)) (Host told);
 }
 
 event_then : (seat : HostSeat) (world : World) (job : ℕ) (asked : Change) (told : EventReply) (tables : Tables)
@@ -175,6 +180,7 @@ event_then seat world job asked told tables turns h rest = record {
       seat_after = seat;
       made = (h, refl, refl);
       past = refl;
+      story = refl;
     },
     rest.run,
   );
@@ -216,6 +222,7 @@ call_then seat world job asked what tree turns h fits other unasked before well 
         refl,
       );
       past = refl;
+      story = refl;
     },
     rest.run,
   );
@@ -318,12 +325,12 @@ abbrev closed : ℕ → Option Opened
 closed = set_at 5 None five
 
 abbrev pub start : Stat → Stat → World
-start root file = record { tree = tree root file none; tables = empty_tables 5; past = no_past }
+start root file = record { tree = tree root file none; tables = empty_tables 5; past = no_past; story = no_story }
 
 pub starts : (root file : Stat) → root.ids ≢ file.ids → kind_of root.mode ≡ directory_kind →
     Starts 5 (start root file)
 starts root file apart kind =
-    record { tables = refl; well_formed = well root file apart kind none small_none; past = refl }
+    record { tables = refl; well_formed = well root file apart kind none small_none; past = refl; story = refl }
 
 small_three : IsSmall three
 small_three =
@@ -554,9 +561,13 @@ ended plan root file seat who apart kind =
 -- so the laws say of it what they say: the second lookup's number names object 1, which the name led to
 pub entered : (plan : Plan) (root file : Stat) (seat : HostSeat) (who : Context) (apart : root.ids ≢ file.ids)
     (kind : kind_of root.mode ≡ directory_kind) →
-    IsEntered plan (start root file) (turns plan root file) 2 1 name (entry_of plan nothing_agreed root.ids file 2)
+    IsEntered plan (runs plan root file seat apart kind).last (steps_of 2 (turns plan root file)) 2 1 name
+    (entry_of plan nothing_agreed root.ids file 2)
 entered plan root file seat who apart kind =
-    entered_law 5 3 plan seat who (turns plan root file) (start root file) 2 1 name
-    (entry_of plan nothing_agreed root.ids file 2) (starts root file apart kind)
-    (ended_jobs 3 (turns plan root file) (ended plan root file seat who apart kind))
-    (belongs plan seat who root file 2 (omega arith))
+    let r = runs plan root file seat apart kind in
+    let entry = entry_of plan nothing_agreed root.ids file 2 in
+    let e = looked_up plan seat who 1 name entry (steps_of 2 (turns plan root file))
+    (belongs plan seat who root file 2 (omega arith)) in
+    entered_law 5 3 plan (turns plan root file) (start root file) r.last 2 1 name entry e.0 e.1 [] e.2 e.3
+    (starts root file apart kind) (ended_jobs 3 (turns plan root file) (ended plan root file seat who apart kind)) r.run
+    e.4 e.5 e.6

@@ -28,10 +28,10 @@ use Rattle.pt_law.specs.Told.{AllMayBeTold}
 use Rattle.pt_frame.specs.Frame.{front, behind, under, mark_in, outer}
 use Rattle.pt_law.specs.Keeps.{uncovered, down_to, After, Keeps}
 use Rattle.pt_law.specs.Branch.{Along, AreOwn, AreOwn.{none, keep, skip}}
-use Rattle.pt_law.specs.Naming.{made}
 use Rattle.pt_law.proofs.Moving.{may_bring_none, told_of}
 use Rattle.pt_fit.specs.Cause.{Asking, OpensOn, Shows, SomeShows, TellsCause, WasTold}
 use Rattle.pt_fit.specs.Fit.{Fit, IsCausedLeaf, MayAnswer}
+use Rattle.pt_law.specs.World.{made}
 
 after_map : (count : ℕ) (P Q : Notes → Type 0) (notes : Notes) → ((later : Notes) → P later → Q later) →
     After count P notes → After count Q notes

@@ -36,11 +36,11 @@ use Rattle.pt_req.specs.declared.begun.BegunSession.{BegunSession}
 use Rattle.pt_req.specs.declared.parts.asked.NamedHandle.{NamedHandle}
 use Rattle.pt_req.specs.declared.plan.Plan.{Plan}
 use Rattle.pt_law.specs.Branch.{Along, AreOwn, ReturnsHold}
-use Rattle.pt_law.specs.Handling.{ComesToNone}
-use Rattle.pt_law.specs.Naming.{made}
 use Rattle.pt_law.proofs.Giving.{own_quiet, own_same}
-use Rattle.pt_fit.specs.Created.{MakesNone}
-use Rattle.pt_fit.proofs.Leading.{HasEntry, no_refusal}
+use Rattle.pt_fit.proofs.Leading.{HasEntry, no_refusal, returns_give, returns_insert}
+use Rattle.pt_law.specs.World.{made}
+use Rattle.pt_law.specs.Reopened.{ComesToNone}
+use Rattle.pt_law.proofs.Opening.{GivesNone, InsertsNone, MakesNone}
 
 abbrev pub answers : Plan → NamedHandle → RequestTree
 answers plan named = Gives (answer.Created named.entry named.handle (create_options plan.config))
@@ -156,6 +156,7 @@ pub record HandlesOwn (number handle : ℕ) (path : List Step) : Type 0 where
   pub first : List Step
   pub are : path ≡ first ++ inserted era handle number fd told ∷ []
   pub makes_none : Each (λ (step : Step). MakesNone step.deed step.reply) first
+  pub gives_none : Each (λ (step : Step). GivesNone step.deed step.reply) first
 
 -- what was made gets the handle, while the request comes to no number
 pub record HandlesMade (fd : Fd) (number handle : ℕ) (path : List Step) : Type 0 where
@@ -184,6 +185,7 @@ handled_along plan session fd entry given handle options path a =
         first = handle_drawn d.0 ∷ slot_taken ∷ [];
         are = are;
         makes_none = (tt, (tt, tt));
+        gives_none = (tt, (tt, tt));
       };
       same_fd = refl;
       came = (tt, (tt, tt));
@@ -225,6 +227,7 @@ record ComesInto (next : RequestTree) (path : List Step) (last : Answer) : Type 
   rest : List Step
   are : path ≡ first ++ rest
   makes_none : Each (λ (step : Step). MakesNone step.deed step.reply) first
+  gives_none : Each (λ (step : Step). GivesNone step.deed step.reply) first
   on : Along next rest last
 
 set_along : (next : RequestTree) (told : ActReply) (path : List Step) (last : Answer) → HasEntry last →
@@ -237,7 +240,7 @@ without_along : (dropped : Bool) (next : RequestTree) (path : List Step) (last :
     Along (without_fsetid dropped next) path last → ComesInto next path last
 unfolding on go_on
 without_along false next path last p a =
-    record { first = []; rest = path; are = refl; makes_none = tt; on = a }
+    record { first = []; rest = path; are = refl; makes_none = tt; gives_none = tt; on = a }
 without_along true next [] last p a = absurd a
 without_along true next (step ∷ path) last p a =
     let o = along_on (Calls (call.DropCap fsetid)) (on ok_in (λ done. next)) (step ∷ path) last refl p a in
@@ -246,6 +249,7 @@ without_along true next (step ∷ path) last p a =
       rest = o.rest;
       are = o.are;
       makes_none = (tt, tt);
+      gives_none = (tt, tt);
       on = set_along next o.told o.rest last p o.on;
     }
 
@@ -279,6 +283,8 @@ opened_num_along plan seat session kill flags entry given handle options path a 
       first = w.first ++ opens;
       are = w.are ∙ ap (λ (z : List Step). w.first ++ z) later ∙ sym (append_assoc w.first opens inserts);
       makes_none = each_join (λ (step : Step). MakesNone step.deed step.reply) w.first opens w.makes_none
+          (tt, (tt, (tt, (tt, tt))));
+      gives_none = each_join (λ (step : Step). GivesNone step.deed step.reply) w.first opens w.gives_none
           (tt, (tt, (tt, (tt, tt))));
     } in
     (e.1, subst (λ n. HandlesOwn entry.inode n path) e.2 by)
@@ -337,6 +343,10 @@ pub record Inserted (number handle : ℕ) (steps : List Step) : Type 0 where
   pub back : List Step
   pub are : steps ≡ front ++ inserted era handle number fd told ∷ back
   pub makes_none : Each (λ (step : Step). MakesNone step.deed step.reply) steps
+  pub gives_none : Each (λ (step : Step). GivesNone step.deed step.reply) steps
+  -- no other is inserted behind it
+  pub quiet : Each (λ (step : Step). InsertsNone step.deed step.reply) back
+  pub gives_no_more : Each (λ (step : Step). GivesNone step.deed step.reply) back
 
 pub inserted_by : (number handle : ℕ) (path steps : List Step) → AreOwn path steps → HandlesOwn number handle path →
     Inserted number handle steps
@@ -344,6 +354,7 @@ inserted_by number handle path steps o h =
     let a = inserted h.era handle number h.fd h.told in
     let own = own_same path steps h.first [] a o h.are in
     let none = each_join (λ (step : Step). MakesNone step.deed step.reply) h.first (a ∷ []) h.makes_none (tt, tt) in
+    let nothing = each_join (λ (step : Step). GivesNone step.deed step.reply) h.first (a ∷ []) h.gives_none (tt, tt) in
     record {
       era = h.era;
       fd = h.fd;
@@ -353,6 +364,10 @@ inserted_by number handle path steps o h =
       are = own.are;
       makes_none = own_quiet MakesNone returns_make path steps o
           (subst (Each (λ (step : Step). MakesNone step.deed step.reply)) (sym h.are) none);
+      gives_none = own_quiet GivesNone returns_give path steps o
+          (subst (Each (λ (step : Step). GivesNone step.deed step.reply)) (sym h.are) nothing);
+      quiet = own_quiet InsertsNone returns_insert [] own.back own.own_back tt;
+      gives_no_more = own_quiet GivesNone returns_give [] own.back own.own_back tt;
     }
 
 -- and before it came to no number

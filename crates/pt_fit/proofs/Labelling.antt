@@ -18,10 +18,10 @@ use Rattle.pt_req.specs.Creating.{kept_with, label_set, labelled, undone}
 use Rattle.pt_req.specs.declared.begun.BegunSession.{BegunSession}
 use Rattle.pt_law.specs.Discipline.{KnowsAll, Notes}
 use Rattle.pt_law.specs.Keeps.{unscoped}
-use Rattle.pt_law.specs.Naming.{made}
 use Rattle.pt_fit.specs.Cause.{Asking, SomeShows}
 use Rattle.pt_fit.specs.Fit.{Fit}
 use Rattle.pt_fit.proofs.Parts.{FitOn, Seen, Told, still}
+use Rattle.pt_law.specs.World.{made}
 
 -- A refusal, or that memory ran out, is answered behind the call that takes the name away, whatever the host says of
 -- it; where that call could not be copied memory ran out.

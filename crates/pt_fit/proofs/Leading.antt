@@ -3,10 +3,12 @@ use Rattle.std.proofs.Common.{◌≡◌, ◌⊎◌, inl, inr, ℕ, List, [], ◌
 use Rattle.std.proofs.Common.{ap, subst, ◌∙◌, ◌++◌, length}
 use Rattle.pt_host.specs.Call.{Call}
 use Rattle.pt_host.specs.Sorts.{Sort, OpensWith, EndsFd, OfSeat, Plain, sort_of}
+use Rattle.pt_host.specs.Words.{Each}
 use Rattle.pt_host.specs.declared.ids.Errno.{Errno}
 use Rattle.pt_host.specs.declared.op.KeptHostOp.TheVariants as call
 use Rattle.pt_host.specs.declared.seat.HostSeat.{HostSeat}
 use Rattle.pt_session.specs.Change.{Change}
+use Rattle.pt_session.specs.declared.event.KeptEvent.TheVariants as change
 use Rattle.pt_session.specs.declared.reply.EventReply.{EventReply}
 use Rattle.pt_session.specs.declared.reply.EventReply.TheVariants as event
 use Rattle.pt_session.specs.declared.reply.EventRefusal.{EventRefusal}
@@ -27,9 +29,11 @@ use Rattle.pt_frame.specs.declared.finish.Finish.{Finish}
 use Rattle.pt_frame.specs.declared.finish.Finish.TheVariants as finish
 use Rattle.pt_frame.specs.declared.hold.Hold.{Hold}
 use Rattle.pt_frame.specs.declared.hold.Hold.TheVariants as hold
-use Rattle.pt_law.specs.Branch.{Along, AreOwn, IsLost, IsGivenUp}
-use Rattle.pt_law.specs.Naming.{made}
+use Rattle.pt_law.specs.Branch.{Along, AreOwn, IsLost, IsGivenUp, ReturnsHold}
 use Rattle.pt_law.proofs.Branches.{branch, end_leave, end_shut, Ended}
+use Rattle.pt_law.proofs.Giving.{own_quiet}
+use Rattle.pt_law.proofs.Opening.{GivesNone, InsertsNone}
+use Rattle.pt_law.specs.World.{made}
 
 pub lost_up : (end : Finish) → IsLost end → IsGivenUp end
 lost_up (finish.Lost errno) l = tt
@@ -114,6 +118,32 @@ shut_none seat given last steps p l =
     go : (path : List Step) → Along (Gives given) path last → last ≡ given
     go [] e = e
     go (step ∷ path) e = absurd e
+
+-- what gives a hold back gives no number, and inserts no handle
+pub returns_give : (deed : Option Deed) (told : ActReply) → ReturnsHold deed → GivesNone deed told
+returns_give (Some (Changes (change.Claim claim))) told h = absurd h
+returns_give (Some (Changes (change.Insert new))) told h = absurd h
+returns_give (Some (Changes asked)) told h = tt
+returns_give (Some (Calls asked)) told h = tt
+returns_give None told h = tt
+
+pub returns_insert : (deed : Option Deed) (told : ActReply) → ReturnsHold deed → InsertsNone deed told
+returns_insert (Some (Changes (change.InsertHandle new))) told h = absurd h
+returns_insert (Some (Changes asked)) told h = tt
+returns_insert (Some (Calls asked)) told h = tt
+returns_insert None told h = tt
+
+-- nor does what follows a bracket behind which it is answered
+pub shut_gives : (seat : HostSeat) (given last : Answer) (steps : List Step) → HasEntry last →
+    Leads seat (Shuts true (Gives given)) steps last →
+    Each (λ (step : Step). GivesNone step.deed step.reply) steps
+shut_gives seat given last steps p l =
+    let b = on_branch seat (Shuts true (Gives given)) steps last p l in go b.0 b.1 b.2
+  where
+    go : (path : List Step) → AreOwn path steps → Along (Shuts true (Gives given)) path last →
+        Each (λ (step : Step). GivesNone step.deed step.reply) steps
+    go [] o a = own_quiet GivesNone returns_give [] steps o tt
+    go (step ∷ path) o a = absurd a
 
 -- an event that tells no closings
 pub none_told : (asked : Change) → ((told : EventReply) → put_by asked told ≡ 0) → (told : ActReply) →

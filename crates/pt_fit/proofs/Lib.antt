@@ -19,6 +19,7 @@ pub mod Answered
 pub mod Beginning
 pub mod Saying
 pub mod Leading
+pub mod LookedUp
 pub mod Looking
 pub mod Handling
 pub mod Still

@@ -2,6 +2,7 @@
 use Rattle.std.proofs.Common.{◌≡◌, ◌⊎◌, inl, inr, ℕ, List, [], ◌∷◌, ◌++◌, Bool, true, false, Option, Some, None, refl}
 use Rattle.std.proofs.Common.{sym, ap, subst, ◌∙◌, if◌then◌else◌}
 use Rattle.pt_host.specs.Errno.{einval}
+use Rattle.pt_host.specs.Words.{Each}
 use Rattle.pt_host.specs.declared.ids.Fd.{Fd}
 use Rattle.pt_host.specs.declared.ids.ObjIds.{ObjIds}
 use Rattle.pt_host.specs.declared.seat.HostSeat.{HostSeat}
@@ -22,11 +23,10 @@ use Rattle.pt_iface.specs.declared.request.Request.TheVariants as request
 use Rattle.pt_frame.specs.Deed.{Deed, Calls, Changes, Step}
 use Rattle.pt_frame.specs.Grammar.{Belongs}
 use Rattle.pt_frame.specs.Replies.{passes_with}
-use Rattle.pt_frame.specs.Tree.{RequestTree, Gives, Shuts, framed, on, go_on}
+use Rattle.pt_frame.specs.Tree.{RequestTree, Gives, Shuts, on, go_on}
 use Rattle.pt_frame.specs.declared.act.ActReply.{ActReply}
 use Rattle.pt_frame.specs.declared.act.ActReply.TheVariants.{Event, Host}
 use Rattle.pt_frame.specs.declared.finish.Finish.TheVariants as finish
-use Rattle.pt_frame.specs.declared.hold.Hold.{Hold}
 use Rattle.pt_req.specs.Entries.{is_bad_name}
 use Rattle.pt_req.specs.Parts.{by_path, named, file_of, numbered_as, numbered, looked_of, look_up}
 use Rattle.pt_req.specs.Steps.{session_of, resolve, open_at, stat, draw_node, insert, began_in, drawn_in}
@@ -37,10 +37,10 @@ use Rattle.pt_req.specs.declared.begun.BegunSession.{BegunSession}
 use Rattle.pt_req.specs.declared.parts.looked.Looked.{Looked}
 use Rattle.pt_req.specs.declared.plan.Plan.{Plan}
 use Rattle.pt_job.specs.Pattern.{grammar_of}
-use Rattle.pt_law.specs.Naming.{made}
-use Rattle.pt_law.specs.World.{fd_of}
-use Rattle.pt_fit.specs.Opened.{claiming, adding, again, inserting, InsertionGives, Numbers, IsLookedUp}
-use Rattle.pt_fit.proofs.Leading.{HasEntry, Leads, refused_none, given_none, shut_none, goes_on, none_told}
+use Rattle.pt_law.specs.World.{fd_of, made}
+use Rattle.pt_law.proofs.Opening.{GivesNone}
+use Rattle.pt_fit.proofs.LookedUp.{claiming, adding, again, inserting, InsertionGives, Numbers, IsLookedUp}
+use Rattle.pt_fit.proofs.Leading.{HasEntry, Leads, refused_none, given_none, shut_none, shut_gives, goes_on, none_told}
 use Rattle.pt_fit.proofs.Leading.{in_bracket}
 
 -- one step further
@@ -252,20 +252,6 @@ looks seat plan session parent name next steps last p a =
           on = given.on;
         }
 
--- in any request, whatever follows
-pub looks_law : (plan : Plan) (session : BegunSession) (parent : ℕ) (name : List ℕ) (next : Looked → RequestTree)
-    (seat : HostSeat) (holds : List Hold) (marks : List ℕ) (steps : List Step) (last : Answer) →
-    passes_with last ≡ true →
-    Belongs (framed seat (look_up plan session parent name next) holds marks) steps (finish.Answer last) →
-    (looked : Looked) × (own : List Step) × (rest : List Step) × (steps ≡ own ++ rest)
-    × IsLookedUp plan session.era session.agreed parent name looked.entry own
-    × ((held : List Hold) × (outer : List ℕ)
-    × Belongs (framed seat (Shuts true (next looked)) held outer) rest (finish.Answer last))
-looks_law plan session parent name next seat holds marks steps last p b =
-    let l = looks seat plan session parent name next steps last p
-    (record { holds = holds; marks = marks; belongs = b }) in
-    (l.looked, l.own, l.rest, l.are, l.by, (l.on.holds, l.on.marks, l.on.belongs))
-
 pub good_name : (seat : HostSeat) (bad : Bool) (next : RequestTree) (steps : List Step) (last : Answer) →
     HasEntry last → Leads seat (if bad then Gives (answer.Refused einval) else next) steps last →
     Leads seat next steps last
@@ -286,6 +272,7 @@ pub looked_up : (plan : Plan) (seat : HostSeat) (who : Context) (parent : ℕ) (
     (era : ℕ) × (agreed : Negotiated) × (own : List Step) × (back : List Step)
     × (steps ≡ made (Changes change.Begin) (Event (event.Began era agreed)) ∷ (own ++ back))
     × IsLookedUp plan era agreed parent name entry own
+    × Each (λ (step : Step). GivesNone step.deed step.reply) back
 unfolding on go_on
 looked_up plan seat who parent name entry steps b =
     let next : Looked → RequestTree = λ looked. Gives (answer.Entry looked.entry) in
@@ -304,6 +291,7 @@ looked_up plan seat who parent name entry steps b =
       l.rest,
       then_step g.are k.2 l.are,
       subst (λ (e : Entry). IsLookedUp plan k.0 k.1 parent name e l.own) same l.by,
+      shut_gives seat (answer.Entry l.looked.entry) (answer.Entry entry) l.rest refl l.on,
     )
   where
     same_entry : {given : Entry} → answer.Entry entry ≡ answer.Entry given → given ≡ entry

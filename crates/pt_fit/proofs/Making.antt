@@ -47,11 +47,8 @@ use Rattle.pt_req.specs.declared.replies.Made.TheVariants.{Old}
 use Rattle.pt_req.specs.declared.parts.looked.Looked.{Looked}
 use Rattle.pt_req.specs.declared.plan.Plan.{Plan}
 use Rattle.pt_job.specs.Pattern.{grammar_of}
-use Rattle.pt_law.specs.Making.{MakesNew, stating}
-use Rattle.pt_law.specs.Naming.{made, opening, resolving}
-use Rattle.pt_law.specs.World.{fd_of}
-use Rattle.pt_fit.specs.Created.{MakesNone}
-use Rattle.pt_fit.specs.Opened.{IsLookedUp}
+use Rattle.pt_law.specs.World.{fd_of, made}
+use Rattle.pt_fit.proofs.LookedUp.{IsLookedUp}
 use Rattle.pt_fit.proofs.Coming.{Comes, bare_comes, labelled_comes, taken_comes}
 use Rattle.pt_fit.proofs.Creating.{same_ids}
 use Rattle.pt_req.proofs.Flags.{creates, excludes}
@@ -61,6 +58,9 @@ use Rattle.pt_fit.proofs.Leading.{HasEntry, IsStill, Leads, given_none, goes_on}
 use Rattle.pt_fit.proofs.Leading.{none_told, on_branch, refused_none, replied}
 use Rattle.pt_fit.proofs.Looking.{began, filed, good_named, looks, resolved, stated, then_step}
 use Rattle.pt_fit.proofs.Still.{all_still_make, unmade}
+use Rattle.pt_law.proofs.Opening.{opening, stating, MakesNone}
+use Rattle.pt_law.specs.Reopened.{resolving}
+use Rattle.pt_law.proofs.Found.{MakesNew}
 
 -- what follows a lookup of what was made, and of what was there
 abbrev then_handled : Plan → BegunSession → Fd → Stat → Looked → RequestTree
@@ -449,15 +449,3 @@ created_parts plan seat who parent name mode kill flags umask ext entry handle o
         let d = resolved seat (in_parent this) r.told r.rest last refl r.on in
         dir_found this d.0 r.rest (then_step g.are k.2 (then_step r.are d.1 refl))
         (filed seat d.0.form (in_dir this) r.rest last d.2)
-
--- it began, and came by some steps to those of a lookup
-pub created_by : (plan : Plan) (seat : HostSeat) (who : Context) (parent : ℕ) (name : List ℕ) (mode : ℕ) (kill : Bool)
-    (flags umask : ℕ) (ext : Extensions) (entry : Entry) (handle : ℕ) (options : OpenOptions) (steps : List Step) →
-    Belongs (grammar_of plan seat who (request.Create parent name mode kill flags umask ext)) steps
-    (finish.Answer (answer.Created entry handle options)) →
-    (era : ℕ) × (agreed : Negotiated) × (front : List Step) × (own : List Step) × (back : List Step)
-    × (steps ≡ made (Changes change.Begin) (Event (event.Began era agreed)) ∷ (front ++ (own ++ back)))
-    × IsLookedUp plan era agreed parent name entry own
-created_by plan seat who parent name mode kill flags umask ext entry handle options steps b =
-    let c = created_parts plan seat who parent name mode kill flags umask ext entry handle options steps b in
-    (c.era, c.agreed, resolving parent c.resolved ∷ c.before, c.own, c.back, c.all, c.looked_up)

@@ -38,15 +38,17 @@ use Rattle.pt_req.specs.declared.plan.Plan.{Plan}
 use Rattle.pt_attr.specs.Making.{ObjectAsked, is_nul, kept_at, label_at, labelled_at, make_object, set_opened}
 use Rattle.pt_attr.specs.Making.{targeted}
 use Rattle.pt_attr.specs.Steps.{make, opened_in, try_open_at}
-use Rattle.pt_law.specs.Naming.{made, resolving}
-use Rattle.pt_law.specs.World.{fd_of}
-use Rattle.pt_fit.specs.Opened.{IsLookedUp}
+use Rattle.pt_law.specs.World.{fd_of, made}
+use Rattle.pt_fit.proofs.LookedUp.{IsLookedUp}
 use Rattle.pt_fit.proofs.ObjectKinds.{Kind, Directory, Link, Node, make_kind, make_named, making_call, targeted_as}
 use Rattle.pt_fit.proofs.ObjectKinds.{unmaking_call}
 use Rattle.pt_fit.proofs.Coming.{bare_comes, set_on, taken_comes, tried_on}
 use Rattle.pt_fit.proofs.Leading.{HasEntry, Leads, given_none, goes_on, in_bracket, none_told, refused_none, replied}
-use Rattle.pt_fit.proofs.Leading.{shut_none, shuts_on}
+use Rattle.pt_fit.proofs.Leading.{shut_gives, shut_none, shuts_on}
+use Rattle.pt_host.specs.Words.{Each}
+use Rattle.pt_law.proofs.Opening.{GivesNone}
 use Rattle.pt_fit.proofs.Looking.{began, filed, good_name, good_named, looks, resolved, then_step}
+use Rattle.pt_law.specs.Reopened.{resolving}
 
 -- By some steps the job comes to this tree.
 record Reaches (seat : HostSeat) (last : Answer) (tree : RequestTree) (steps : List Step) : Type 0 where
@@ -210,6 +212,7 @@ pub made_by : (plan : Plan) (seat : HostSeat) (object : ObjectAsked) (its : Kind
     (era : ℕ) × (agreed : Negotiated) × (front : List Step) × (own : List Step) × (back : List Step)
     × (steps ≡ made (Changes change.Begin) (Event (event.Began era agreed)) ∷ (front ++ (own ++ back)))
     × IsLookedUp plan era agreed object.parent object.name entry own
+    × Each (λ (step : Step). GivesNone step.deed step.reply) back
 unfolding on go_on
 made_by plan seat object its entry steps b = found (record { holds = []; marks = []; belongs = b })
   where
@@ -232,6 +235,7 @@ made_by plan seat object its entry steps b = found (record { holds = []; marks =
     Found = (era : ℕ) × (agreed : Negotiated) × (front : List Step) × (own : List Step) × (back : List Step)
         × (steps ≡ made (Changes change.Begin) (Event (event.Began era agreed)) ∷ (front ++ (own ++ back)))
         × IsLookedUp plan era agreed object.parent object.name entry own
+        × Each (λ (step : Step). GivesNone step.deed step.reply) back
 
     same_entry : {given : Entry} → answer.Entry entry ≡ answer.Entry given → given ≡ entry
     same_entry e = cc
@@ -252,6 +256,7 @@ made_by plan seat object its entry steps b = found (record { holds = []; marks =
           e ∙ ap (λ (z : List Step). begun ∷ (front ++ z)) f.are,
           subst (λ (one : Entry).
               IsLookedUp plan session.era session.agreed object.parent object.name one f.own) same f.by,
+          shut_gives seat (answer.Entry f.looked.entry) last f.rest refl f.on,
         )
 
     dir_found : (session : BegunSession) (row : Resolved) (rest : List Step) →

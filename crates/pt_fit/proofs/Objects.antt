@@ -37,7 +37,6 @@ use Rattle.pt_attr.specs.Making.{is_nul}
 use Rattle.pt_attr.specs.Steps.{make, try_open_at}
 use Rattle.pt_law.specs.Discipline.{KnowsAll, Notes, blank}
 use Rattle.pt_law.specs.Keeps.{Lasts, unscoped}
-use Rattle.pt_law.specs.Naming.{made as step_made}
 use Rattle.pt_law.specs.Told.{MayBeTold}
 use Rattle.pt_fit.specs.Cause.{Asking, BlocksLabel, IsBlockedLabel, OwnCause, SomeShows, asking, caused}
 use Rattle.pt_fit.specs.Fit.{Fit, MayAnswer}
@@ -50,6 +49,7 @@ use Rattle.pt_fit.proofs.Parts.{FitOn, Seen, Told, Agreed, blocked_by, fit_begin
 use Rattle.pt_fit.proofs.Parts.{fit_resolve, still}
 use Rattle.pt_fit.proofs.Scopes.{Covers}
 use Rattle.pt_fit.proofs.Refused.{path_heeded, refused_by}
+use Rattle.pt_law.specs.World.{made as step_made}
 
 -- The object is made, and the scopes end.
 module _ {asked : Asking} {seen : List Seen} {marks : List ℕ} {notes : Notes} (holds bare : List Hold)

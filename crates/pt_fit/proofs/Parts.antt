@@ -35,12 +35,12 @@ use Rattle.pt_req.specs.declared.begun.BegunSession.{BegunSession}
 use Rattle.pt_law.specs.Discipline.{Notes, with_root, unnoted, found_by, given_for, with_given, KnowsAll, PinsLatest}
 use Rattle.pt_law.specs.Discipline.{at_job, newly, told_as, told_of}
 use Rattle.pt_law.specs.Keeps.{Lasts, LiesOnSlot.{here as lies, there as under}, down_to}
-use Rattle.pt_law.specs.Naming.{made}
 use Rattle.pt_law.proofs.Sounds.{after_any}
 use Rattle.pt_fit.specs.Cause.{Asking, BlocksLabel, OpensOn, OwnCause, Shows, SomeShows, WasTold, caused}
 use Rattle.pt_fit.specs.Fit.{Fit}
 use Rattle.pt_fit.proofs.Holds.{IsBare, handed_top, down_over, over, laid_over, unscoped_over}
 use Rattle.pt_fit.proofs.Refused.{refused_by}
+use Rattle.pt_law.specs.World.{made}
 
 -- what was told: a name was opened so, a descriptor is open on what has these ids, or this was agreed on
 pub data Seen : Type 0 where

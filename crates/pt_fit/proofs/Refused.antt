@@ -22,9 +22,9 @@ use Rattle.pt_frame.specs.declared.hold.Hold.{Hold}
 use Rattle.pt_req.specs.Parts.{by_path}
 use Rattle.pt_law.specs.Keeps.{MayBeMade}
 use Rattle.pt_law.specs.Told.{MayBeTold}
-use Rattle.pt_law.specs.Naming.{made}
 use Rattle.pt_fit.specs.Cause.{Asking, asking, caused}
 use Rattle.pt_fit.specs.Fit.{IsCausedLeaf}
+use Rattle.pt_law.specs.World.{made}
 
 -- such a reply is awaited
 abbrev pub IsAwaited : Deed → ActReply → Type 0

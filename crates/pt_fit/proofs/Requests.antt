@@ -30,7 +30,6 @@ use Rattle.pt_job.specs.Requests.{object_asked}
 use Rattle.pt_fit.proofs.ObjectKinds.{Directory, Link, Node}
 use Rattle.pt_attr.specs.Requests.{access, allowed, getattr, link, readlink, rename, rmdir, statfs, unlink}
 use Rattle.pt_law.specs.Discipline.{Notes, blank}
-use Rattle.pt_law.specs.Naming.{made}
 use Rattle.pt_fit.specs.Cause.{Asking, OpensFile, asking}
 use Rattle.pt_fit.specs.Fit.{IsFit}
 use Rattle.pt_fit.proofs.Calling.{fit_do_call, fit_look_at, fit_read_at, fit_read_link, fit_stat_fs}
@@ -44,6 +43,7 @@ use Rattle.pt_fit.proofs.Joined.{after_any_step, fit_file_by, fit_files_by, fit_
 use Rattle.pt_fit.proofs.Joined.{fit_root_open, fit_unserved}
 use Rattle.pt_fit.proofs.Parts.{FitOn, GoesAfter, fit_begin, fit_clear, fit_forget_all, fit_name, fit_pin_handle}
 use Rattle.pt_fit.proofs.Parts.{fit_place, fit_release_handle, Seen}
+use Rattle.pt_law.specs.World.{made}
 
 fit_root : (asked : Asking) (plan : Plan) → FitOn asked [] (begin (root plan)) [] [] blank
 fit_root asked plan = fit_begin _ refl (λ session.

@@ -25,12 +25,12 @@ use Rattle.pt_req.specs.declared.replies.Made.{Made}
 use Rattle.pt_req.specs.declared.replies.Made.TheVariants.{New, Old}
 use Rattle.pt_law.specs.Discipline.{Notes, found_by, newly, KnowsAll, PinsLatest, at_job}
 use Rattle.pt_law.specs.Keeps.{MayOpen, uncovered, unscoped}
-use Rattle.pt_law.specs.Naming.{made}
 use Rattle.pt_fit.specs.Cause.{Asking, caused}
 use Rattle.pt_fit.specs.Fit.{Fit, IsCausedLeaf}
 use Rattle.pt_fit.proofs.Holds.{IsBare, over, uncovered_over}
 use Rattle.pt_fit.proofs.Parts.{FitOn, Opened, Seen, Told, held_as, opened_so, still}
 use Rattle.pt_fit.proofs.Refused.{refused_by}
+use Rattle.pt_law.specs.World.{made}
 
 -- a scope is open where its call was Ok
 pub fit_open_scope : {asked : Asking} {seen : List Seen} {holds : List Hold} {marks : List ℕ}

@@ -14,9 +14,8 @@ use Rattle.pt_creds.specs.declared.credentials.CredSteps.{CredSteps}
 use Rattle.pt_frame.specs.Deed.{Calls, Changes, Deed, IsStepOf, Step}
 use Rattle.pt_frame.specs.declared.act.ActReply.{ActReply}
 use Rattle.pt_frame.specs.declared.act.ActReply.TheVariants.{Host, NoCopy}
-use Rattle.pt_law.specs.Naming.{ResolvesNone}
-use Rattle.pt_fit.specs.Created.{MakesNone}
 use Rattle.pt_fit.proofs.Leading.{IsStill, StillSort}
+use Rattle.pt_law.proofs.Opening.{ResolvesNone, MakesNone}
 
 -- these calls are the seat's
 abbrev pub AreStill : List Call → Type 0

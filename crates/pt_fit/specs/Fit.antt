@@ -16,7 +16,7 @@ use Rattle.pt_frame.specs.declared.hold.Hold.{Hold}
 use Rattle.pt_law.specs.Discipline.{Notes, notes_after, blank}
 use Rattle.pt_law.specs.Told.{MayBeTold}
 use Rattle.pt_law.specs.Keeps.{uncovered, down_to, MayMake, MayOpen, Lasts, After, HoldsEntry}
-use Rattle.pt_law.specs.Naming.{made}
+use Rattle.pt_law.specs.World.{made}
 use Rattle.pt_fit.specs.Cause.{Asking, HasCause}
 
 -- an entry is the answer of a lookup, of a making and of `link`, and one with a handle that of `create`

@@ -1,7 +1,6 @@
 -- Inner. The files of definitions, lowest first.
 pub mod Cause
 pub mod Fit
-pub mod Opened
 pub mod Entered
 pub mod Created
 pub mod Handled

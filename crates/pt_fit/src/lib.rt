@@ -8,7 +8,7 @@ mod run;
 mod seats;
 mod uses;
 
-pub use entry::{create_opens, entry_opens, lookup_opens, part_looks_up, places_of_entry};
+pub use entry::{create_opens, entry_opens};
 pub use job::{asked_ends, each_request, edit_ends};
 pub use run::all_answered;
 pub use seats::asked_seated;

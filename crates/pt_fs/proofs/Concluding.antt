@@ -48,6 +48,7 @@ is_run {does = does} {plan = plan} {jobs = jobs} {trace = trace} {answers = answ
       reached = kept.reached;
       agree = kept.agree;
       counts = kept.counts;
+      polite = kept.polite;
       handles = kept.handles;
       once = kept.once;
       options = kept.options;
@@ -60,7 +61,6 @@ is_run {does = does} {plan = plan} {jobs = jobs} {trace = trace} {answers = answ
       serves = told.serves;
       reopens = told.reopens;
       entries = told.entries;
-      created = told.created;
       two_lookups = told.two_lookups;
       origins = told.origins;
       names_open = told.named;

@@ -38,6 +38,7 @@ use Rattle.pt_law.proofs.HandlesOnce.{handles_once_law}
 use Rattle.pt_law.proofs.Overtaking.{overtaken_law, shut_out_law}
 use Rattle.pt_law.proofs.Interleaving.{tables_split}
 use Rattle.pt_law.proofs.Next.{honoured_law, owner_of}
+use Rattle.pt_law.proofs.Politing.{polite_counts, polite_gives_back}
 use Rattle.pt_law.proofs.Returned.{all_settled}
 use Rattle.pt_fit.specs.Cause.{IsCausedBy, EditCauses}
 use Rattle.pt_fit.proofs.Asked.{comes_ends, job_caused}
@@ -51,7 +52,7 @@ use Rattle.pt_fs.specs.Jobs.{job_start, job_grammar, asked_of}
 use Rattle.pt_fs.specs.Trace.{TraceRuns, steps_by, step_of}
 use Rattle.pt_fs.specs.Keeps.{turn_of, turns_of, AfterEach, KeepsCounts, KeepsHandles, InsertsOnce, OvertakenAsTold}
 use Rattle.pt_fs.specs.Keeps.{KeepsOptions, decision, decided_by, ShutsOut, OfEachJob, GivesAllBack, IsCausedIn}
-use Rattle.pt_fs.specs.Keeps.{RanOutIn, ReachesEach, HonoursEach}
+use Rattle.pt_fs.specs.Keeps.{RanOutIn, ReachesEach, HonoursEach, ServesPolite, finish_of, finish_at}
 use Rattle.pt_fs.specs.declared.job.Job.{Job}
 use Rattle.pt_fs.specs.declared.trace.TraceStep.{TraceStep}
 use Rattle.pt_fs.proofs.Ended.{one_for_each, at_below}
@@ -238,6 +239,7 @@ pub record KeepsTables (plan : Plan) (limit : ℕ) (jobs : List Job) (tables : T
     (answers : List Answer)
     (tables' : Tables) : Type 0 where
   pub counts : AfterEach tables trace KeepsCounts
+  pub polite : ServesPolite jobs answers trace tables'
   pub handles : AfterEach tables trace KeepsHandles
   pub options : AfterEach tables trace (KeepsOptions plan jobs)
   pub once : InsertsOnce trace
@@ -269,6 +271,17 @@ decides_of plan jobs trace answers same comes j below =
     rw (steps_same j trace) (subst (λ (o : Option Job). Decides (decision plan o) (steps_by j trace)) (sym it.2.0)
     (comes_decides plan it.0 (steps_by j trace) it.1 it.2.1))
 
+finishes_of : (plan : Plan) (jobs : List Job) (trace : List TraceStep) (answers : List Answer) →
+    length answers ≡ length jobs → OfEachJob jobs answers (λ j job told. Comes plan job (steps_by j trace) told) →
+    ((j : ℕ) → AllMayBeTold (steps_by j trace)) → (j : ℕ) → j < length jobs →
+    ComesToEnd idle (steps_of j (turns_of trace)) (finish_at answers j)
+finishes_of plan jobs trace answers same comes may j below =
+    let it = some_job jobs answers (λ k job told.
+    (slice_get answers k ≡ Some told) × Comes plan job (steps_by k trace) told) same
+    (λ k job told at told_at. (told_at, comes k job told at told_at)) j below in
+    rw (steps_same j trace) (subst (λ (o : Option Answer). ComesToEnd idle (steps_by j trace) (finish_of o)) (sym it.2.0)
+    (comes_to_end plan it.0 (steps_by j trace) it.1 (may j) it.2.1))
+
 pub keeps : {H : Type 0} (does : HostRelation H) (faults : H → ℕ) → Promises does faults →
     (plan : Plan) (limit : ℕ) (jobs : List Job) (host : H) (tables : Tables) (trace : List TraceStep)
     (answers : List Answer) (host' : H) (tables' : Tables) →
@@ -292,6 +305,11 @@ keeps does faults p plan limit jobs host tables trace answers host' tables' ran 
     record {
       counts = λ so_far rest now e r number.
           counts_law limit (turns_of so_far) now number (from_empty (turns_of so_far) now r);
+      polite = λ p.
+          let comes = finishes_of plan jobs trace answers ran.answered ran.comes told in (
+            polite_counts limit (length jobs) (finish_at answers) (turns_of trace) tables' owners comes p whole,
+            polite_gives_back limit (length jobs) (finish_at answers) (turns_of trace) tables' owners comes p whole,
+          );
       handles = λ so_far rest now e r handle.
           standing_law limit (turns_of so_far) now handle (from_empty (turns_of so_far) now r);
       options = λ so_far rest now e r.

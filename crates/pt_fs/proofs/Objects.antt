@@ -1,7 +1,6 @@
 -- The laws of whole runs that speak of objects, read for a trace over a host that tells its tree.
 use Rattle.std.proofs.Common.{◌≡◌, ◌⊎◌, inl, inr, ◌++◌, ◌∙◌, ℕ, Bool, List, [], ◌∷◌, Option, Some, ap, subst, refl}
-use Rattle.std.proofs.Common.{length, append-nil}
-use Rattle.pt_host.specs.declared.ids.ObjIds.{ObjIds}
+use Rattle.std.proofs.Common.{length, append_assoc, sym}
 use Rattle.pt_host.specs.Tree.{Tree, IsWellFormed}
 use Rattle.pt_session.specs.Tables.{Tables, empty_tables}
 use Rattle.pt_iface.specs.declared.answer.Answer.{Answer}
@@ -11,19 +10,26 @@ use Rattle.pt_iface.specs.declared.flags.OpenOptions.{OpenOptions}
 use Rattle.pt_iface.specs.declared.request.Extensions.{Extensions}
 use Rattle.pt_iface.specs.declared.request.Context.{Context}
 use Rattle.pt_iface.specs.declared.request.Request.TheVariants as request
-use Rattle.pt_frame.specs.Deed.{kept_deed_of}
+use Rattle.pt_session.specs.declared.event.KeptEvent.TheVariants as change
+use Rattle.pt_session.specs.declared.form.Negotiated.{Negotiated}
+use Rattle.pt_session.specs.declared.reply.EventReply.TheVariants as event
+use Rattle.pt_frame.specs.Deed.{Changes, Step, kept_deed_of}
+use Rattle.pt_frame.specs.declared.act.ActReply.TheVariants.{Event}
+use Rattle.pt_req.specs.Parts.{by_path}
 use Rattle.pt_frame.specs.Grammar.{Belongs}
 use Rattle.pt_host.specs.Relation.{HostRelation}
 use Rattle.pt_frame.specs.declared.finish.Finish.TheVariants as finish
 use Rattle.pt_req.specs.declared.plan.Plan.{Plan}
 use Rattle.pt_job.specs.Pattern.{Asked, Requests, grammar_of, grammar_for}
-use Rattle.pt_law.specs.Giving.{GivingPlaces, up_to}
 use Rattle.pt_law.specs.Discipline.{AreDisciplined}
+use Rattle.pt_law.specs.Findings.{WasGiven}
 use Rattle.pt_law.specs.Laws.{AreKept, NamesOpen, ObjectOf, Starts}
-use Rattle.pt_law.specs.Reopened.{ReopensResolved}
+use Rattle.pt_law.specs.Origins.{ComeFromNames}
+use Rattle.pt_law.specs.Reopened.{ReopensResolved, resolving}
+use Rattle.pt_law.specs.Story.{no_story}
 use Rattle.pt_law.specs.Told.{AllMayBeTold}
 use Rattle.pt_law.specs.Uses.{StaysLive}
-use Rattle.pt_law.specs.World.{Turn, World, no_past, Runs as WorldRuns, steps_of}
+use Rattle.pt_law.specs.World.{Turn, World, fd_of, made, no_past, Runs as WorldRuns, steps_of}
 use Rattle.pt_law.proofs.Cuts.{runs_split}
 use Rattle.pt_law.proofs.Giving.{two_lookups_law}
 use Rattle.pt_law.proofs.Hosts.{Tells, hosts_told, hosts_world}
@@ -31,23 +37,24 @@ use Rattle.pt_law.proofs.Laws.{ended_jobs, distinct_law, object_law, handles_law
 use Rattle.pt_law.proofs.Next.{named_law}
 use Rattle.pt_law.proofs.Reopened.{reopened_law}
 use Rattle.pt_law.proofs.Told.{Promises}
-use Rattle.pt_law.proofs.Tracing.{origins_law}
+use Rattle.pt_law.proofs.Opening.{opening, stating}
+use Rattle.pt_law.proofs.Origins.{origins_law}
 use Rattle.pt_fit.specs.Created.{IsCreated}
 use Rattle.pt_fit.specs.Entered.{IsEntered, name_asked}
 use Rattle.pt_fit.proofs.Asked.{created_asked}
 use Rattle.pt_fit.proofs.Created.{file_law}
-use Rattle.pt_fit.proofs.Entered.{look_places, created_places, created_law, placed_law}
+use Rattle.pt_fit.proofs.Entered.{entered_law}
 use Rattle.pt_fit.proofs.Entries.{EntryBy, entry_asked}
-use Rattle.pt_fit.proofs.Making.{created_by, created_parts}
+use Rattle.pt_fit.proofs.LookedUp.{IsLookedUp}
+use Rattle.pt_fit.proofs.Making.{created_parts}
 use Rattle.pt_fs.specs.Jobs.{job_start, job_grammar, asked_of}
 use Rattle.pt_fs.specs.Keeps.{turn_of, turns_of, AfterEachTold, LeadsOn, begins_in, KeepsObjects, ServesEach}
-use Rattle.pt_fs.specs.Keeps.{OfEachJob, IsNamedIn, IsCreatedIn, NamesOpenOnes, LeavesOpen, AgreeOnNumbers}
-use Rattle.pt_fs.specs.Keeps.{ComeFromNames}
+use Rattle.pt_fs.specs.Keeps.{OfEachJob, IsNamedIn, NamesOpenOnes, LeavesOpen, AgreeOnNumbers}
 use Rattle.pt_fs.specs.declared.job.Job.{Job}
 use Rattle.pt_fs.specs.declared.trace.TraceStep.{TraceStep}
 use Rattle.pt_fs.proofs.Laws.{Comes, Ran, host_runs, steps_same, ended_of, turns-append, cut_at}
 use Rattle.pt_fs.proofs.Uncalled.{AreUncalled, formed, uncalled_front, uncalled_at, no_rows, no_handles, keeps_none}
-use Rattle.pt_fs.proofs.Uncalled.{leaves_none, names_none, no_places, no_objects, none_anew, unobjected}
+use Rattle.pt_fs.proofs.Uncalled.{leaves_none, names_none, no_call, no_objects, none_anew, unobjected}
 
 -- those that speak of objects, over a host that tells its tree
 pub record KeepsTold (plan : Plan) (jobs : List Job) (told : Option Tree) (tables : Tables) (trace : List TraceStep)
@@ -60,57 +67,55 @@ pub record KeepsTold (plan : Plan) (jobs : List Job) (told : Option Tree) (table
   pub named : NamesOpenOnes told tables trace
   pub leaves : LeavesOpen told tables trace
   pub entries : OfEachJob jobs answers (IsNamedIn plan told tables trace)
-  pub created : OfEachJob jobs answers (IsCreatedIn plan told tables trace)
-  pub two_lookups : AgreeOnNumbers plan told tables trace
-  pub origins : AfterEachTold told tables trace ComeFromNames
+  pub two_lookups : AgreeOnNumbers told tables trace
+  pub origins : AfterEachTold told tables trace (λ start so_far now. ComeFromNames now)
 
--- an entry names what its name led to, in the world in which the run begins
-entered_from : (limit : ℕ) (plan : Plan) (jobs : List Job) (start : World) (turns : List Turn) (j : ℕ)
-    (asked : Asked) (entry : Entry) (by : EntryBy plan asked entry (steps_of j turns)) →
-    start.tables ≡ empty_tables limit → start.past ≡ no_past → AreUncalled turns ⊎ IsWellFormed start.tree →
-    AreDisciplined (length jobs) turns → IsEntered plan start turns j by.parent by.name entry
-entered_from limit plan jobs start turns j asked entry by begins past known disciplined = elim known [
-  | inl u ↦
-      let places = look_places plan turns j by.parent by.name entry by.era by.agreed by.front by.own by.back by.all
-      by.by in
-      absurd (no_places u places.given)
-  | inr well ↦ placed_law limit (length jobs) plan turns start j by.parent by.name entry by.era by.agreed by.front
-      by.own by.back (record { tables = begins; well_formed = well; past = past }) disciplined by.all by.by
+-- a run that was answered with an entry opened a name
+no_entry : (plan : Plan) (turns : List Turn) (j parent : ℕ) (name : List ℕ) (entry : Entry) (era : ℕ)
+    (agreed : Negotiated) (front own back : List Step) → AreUncalled turns →
+    steps_of j turns ≡ made (Changes change.Begin) (Event (event.Began era agreed)) ∷ (front ++ (own ++ back)) →
+    IsLookedUp plan era agreed parent name entry own → ⊥
+no_entry plan turns j parent name entry era agreed front own back u e l =
+    let begin : Step = made (Changes change.Begin) (Event (event.Began era agreed)) in
+    let first : List Step = front ++ resolving parent l.resolved ∷ [] in
+    let anew = opening (fd_of l.resolved.form) name by_path 0 l.fd in
+    let more : List Step = stating l.fd l.stat ∷ l.giving in
+    let all : steps_of j turns ≡ (begin ∷ first) ++ anew ∷ (more ++ back) =
+    e ∙ ap (λ (z : List Step). begin ∷ (front ++ (z ++ back))) l.in_turn
+    ∙ ap (λ (z : List Step). begin ∷ z)
+    (sym (append_assoc front (resolving parent l.resolved ∷ []) (anew ∷ (more ++ back)))) in
+    absurd (no_call turns j (begin ∷ first) anew (more ++ back) u all)
+
+-- the world in which a run begins is a new one
+abbrev IsNew : ℕ → World → Type 0
+IsNew limit start =
+    (start.tables ≡ empty_tables limit) × (start.past ≡ no_past) × (start.story ≡ no_story)
+
+starts_by : (limit : ℕ) (start : World) → IsNew limit start → IsWellFormed start.tree → Starts limit start
+starts_by limit start n well = record { tables = n.0; well_formed = well; past = n.1; story = n.2 }
+
+-- an entry names what its name led to
+entered_from : (limit : ℕ) (plan : Plan) (jobs : List Job) (start end : World) (turns : List Turn) (j : ℕ)
+    (asked : Asked) (entry : Entry) (by : EntryBy plan asked entry (steps_of j turns)) → IsNew limit start →
+    AreUncalled turns ⊎ IsWellFormed start.tree → AreDisciplined (length jobs) turns → WorldRuns start turns end →
+    IsEntered plan end (steps_of j turns) j by.parent by.name entry
+entered_from limit plan jobs start end turns j asked entry by new known disciplined r = elim known [
+  | inl u ↦ absurd (no_entry plan turns j by.parent by.name entry by.era by.agreed by.front by.own by.back u by.all
+      by.by)
+  | inr well ↦ entered_law limit (length jobs) plan turns start end j by.parent by.name entry by.era by.agreed by.front
+      by.own by.back (starts_by limit start new well) disciplined r by.all by.by by.quiet
 ]
 
-created_from : (limit : ℕ) (plan : Plan) (jobs : List Job) (start : World) (turns : List Turn) (j : ℕ) (job : Job)
-    (who : Context) (parent : ℕ) (name : List ℕ) (mode : ℕ) (kill : Bool) (flags umask : ℕ) (ext : Extensions)
-    (entry : Entry) (handle : ℕ) (options : OpenOptions) → start.tables ≡ empty_tables limit →
-    start.past ≡ no_past → AreUncalled turns ⊎ IsWellFormed start.tree → AreDisciplined (length jobs) turns →
-    asked_of job ≡ Requests who (request.Create parent name mode kill flags umask ext) →
-    Belongs (job_grammar plan job) (steps_of j turns) (finish.Answer (answer.Created entry handle options)) →
-    IsEntered plan start turns j parent name entry
-created_from limit plan jobs start turns j job who parent name mode kill flags umask ext entry handle options begins
-    past known disciplined asked b =
-    let made : Belongs (grammar_of plan (job_start job) who (request.Create parent name mode kill flags umask ext))
-    (steps_of j turns) (finish.Answer (answer.Created entry handle options)) =
-    subst (λ (r : Asked). Belongs (grammar_for plan (job_start job) r) (steps_of j turns)
-    (finish.Answer (answer.Created entry handle options))) asked b in
-    elim known [
-      | inl u ↦
-          let e = created_by plan (job_start job) who parent name mode kill flags umask ext entry handle options
-          (steps_of j turns) made in
-          let places = look_places plan turns j parent name entry e.0 e.1 e.2 e.3 e.4 e.5 e.6 in
-          absurd (no_places u places.given)
-      | inr well ↦ created_law limit (length jobs) plan (job_start job) who turns start j parent name mode kill flags
-          umask ext entry handle options (record { tables = begins; well_formed = well; past = past }) disciplined made
-    ]
-
 -- and which file a created one is
-file_from : (limit : ℕ) (plan : Plan) (jobs : List Job) (start : World) (turns : List Turn) (j : ℕ) (job : Job)
+file_from : (limit : ℕ) (plan : Plan) (jobs : List Job) (start end : World) (turns : List Turn) (j : ℕ) (job : Job)
     (who : Context) (parent : ℕ) (name : List ℕ) (mode : ℕ) (kill : Bool) (flags umask : ℕ) (ext : Extensions)
-    (entry : Entry) (handle : ℕ) (options : OpenOptions) → start.tables ≡ empty_tables limit →
-    start.past ≡ no_past → AreUncalled turns ⊎ IsWellFormed start.tree → AreDisciplined (length jobs) turns →
+    (entry : Entry) (handle : ℕ) (options : OpenOptions) → IsNew limit start →
+    AreUncalled turns ⊎ IsWellFormed start.tree → AreDisciplined (length jobs) turns → WorldRuns start turns end →
     asked_of job ≡ Requests who (request.Create parent name mode kill flags umask ext) →
     Belongs (job_grammar plan job) (steps_of j turns) (finish.Answer (answer.Created entry handle options)) →
-    IsCreated plan start turns j parent name entry handle
-file_from limit plan jobs start turns j job who parent name mode kill flags umask ext entry handle options begins
-    past known disciplined asked b =
+    IsCreated plan end (steps_of j turns) j parent name entry handle
+file_from limit plan jobs start end turns j job who parent name mode kill flags umask ext entry handle options new
+    known disciplined r asked b =
     let made : Belongs (grammar_of plan (job_start job) who (request.Create parent name mode kill flags umask ext))
     (steps_of j turns) (finish.Answer (answer.Created entry handle options)) =
     subst (λ (r : Asked). Belongs (grammar_for plan (job_start job) r) (steps_of j turns)
@@ -119,10 +124,10 @@ file_from limit plan jobs start turns j job who parent name mode kill flags umas
       | inl u ↦
           let c = created_parts plan (job_start job) who parent name mode kill flags umask ext entry handle options
           (steps_of j turns) made in
-          let at = created_places plan turns j parent name entry handle c in
-          absurd (no_places u at.0.given)
-      | inr well ↦ file_law limit (length jobs) plan (job_start job) who turns start j parent name mode kill flags umask
-          ext entry handle options (record { tables = begins; well_formed = well; past = past }) disciplined made
+          absurd (no_entry plan turns j parent name entry c.era c.agreed (resolving parent c.resolved ∷ c.before) c.own
+          c.back u c.all c.looked_up)
+      | inr well ↦ file_law limit (length jobs) plan (job_start job) who turns start end j parent name mode kill flags
+          umask ext entry handle options (starts_by limit start new well) disciplined r made
     ]
 
 entered_by : (limit : ℕ) (plan : Plan) (jobs : List Job) (told : Option Tree) (tables : Tables)
@@ -135,9 +140,10 @@ entered_by limit plan jobs told tables trace begins disciplined known j job (ans
       by.parent,
       by.name,
       by.names,
-      (λ tree is.
-          entered_from limit plan jobs (begins_in tree tables) (turns_of trace) j (asked_of job) entry by begins refl
-          (known tree is) disciplined),
+      (λ tree is end r.
+          subst (λ (steps : List Step). IsEntered plan end steps j by.parent by.name entry) (steps_same j trace)
+          (entered_from limit plan jobs (begins_in tree tables) end (turns_of trace) j (asked_of job) entry by
+          (begins, refl, refl) (known tree is) disciplined r)),
     )
 entered_by limit plan jobs told tables trace begins disciplined known j job (answer.Entry entry) may (inr stops) =
     let no : answer.Entry entry ≡ answer.Cut = stops.0 in absurd (cc)
@@ -148,37 +154,19 @@ entered_by limit plan jobs told tables trace begins disciplined known j job (ans
       named.1,
       named.2,
       ap name_asked named.8,
-      (λ tree is.
-          created_from limit plan jobs (begins_in tree tables) (turns_of trace) j job named.0 named.1 named.2 named.3
-          named.4 named.5 named.6 named.7 entry handle options begins refl (known tree is) disciplined named.8 b),
+      (λ tree is end r.
+          subst (λ (steps : List Step). IsCreated plan end steps j named.1 named.2 entry handle) (steps_same j trace)
+          (file_from limit plan jobs (begins_in tree tables) end (turns_of trace) j job named.0 named.1 named.2 named.3
+          named.4 named.5 named.6 named.7 entry handle options (begins, refl, refl) (known tree is) disciplined r named.8
+          b)),
     )
 entered_by limit plan jobs told tables trace begins disciplined known j job (answer.Created entry handle options) may
     (inr stops) = let no : answer.Created entry handle options ≡ answer.Cut = stops.0 in absurd (cc)
 entered_by limit plan jobs told tables trace begins disciplined known j job given may b = tt
 
-file_by : (limit : ℕ) (plan : Plan) (jobs : List Job) (told : Option Tree) (tables : Tables)
-    (trace : List TraceStep) → tables ≡ empty_tables limit → AreDisciplined (length jobs) (turns_of trace) →
-    ((tree : Tree) → told ≡ Some tree → AreUncalled (turns_of trace) ⊎ IsWellFormed tree) →
-    (j : ℕ) (job : Job) (given : Answer) → AllMayBeTold (steps_of j (turns_of trace)) →
-    Comes plan job (steps_of j (turns_of trace)) given → IsCreatedIn plan told tables trace j job given
-file_by limit plan jobs told tables trace begins disciplined known j job (answer.Created entry handle options) may
-    (inl b) =
-    let named = created_asked plan (job_start job) (asked_of job) (steps_of j (turns_of trace)) entry handle options may
-    b in (
-      named.1,
-      named.2,
-      ap name_asked named.8,
-      (λ tree is.
-          file_from limit plan jobs (begins_in tree tables) (turns_of trace) j job named.0 named.1 named.2 named.3
-          named.4 named.5 named.6 named.7 entry handle options begins refl (known tree is) disciplined named.8 b),
-    )
-file_by limit plan jobs told tables trace begins disciplined known j job (answer.Created entry handle options) may
-    (inr stops) = let no : answer.Created entry handle options ≡ answer.Cut = stops.0 in absurd (cc)
-file_by limit plan jobs told tables trace begins disciplined known j job given may b = tt
-
 -- what holds in the world in which the run begins, after the steps so far and the world to which they led
 module _ (limit bound : ℕ) (start now : World) (trace so_far rest : List TraceStep)
-    (begins : start.tables ≡ empty_tables limit) (past : start.past ≡ no_past)
+    (new : IsNew limit start)
     (known : AreUncalled (turns_of trace) ⊎ IsWellFormed start.tree) (e : trace ≡ so_far ++ rest)
     (d : AreDisciplined bound (turns_of trace)) (r : WorldRuns start (turns_of so_far) now) where
   d_cut : AreDisciplined bound (turns_of so_far ++ turns_of rest)
@@ -189,12 +177,12 @@ module _ (limit bound : ℕ) (start now : World) (trace so_far rest : List Trace
       (subst AreUncalled (ap turns_of e ∙ turns-append so_far rest) u)
 
   starts : IsWellFormed start.tree → Starts limit start
-  starts well = record { tables = begins; well_formed = well; past = past }
+  starts well = starts_by limit start new well
 
   pub objects_kept : KeepsObjects now
   objects_kept = elim known [
     | inl u ↦ unobjected now
-        (no_rows limit bound (turns_of so_far) (turns_of rest) start now begins (quiet u) r d_cut)
+        (no_rows limit bound (turns_of so_far) (turns_of rest) start now new.0 (quiet u) r d_cut)
     | inr well ↦ record {
       distinct = distinct_law limit bound (turns_of so_far) (turns_of rest) start now (starts well) d_cut r;
       open_on = λ row at.
@@ -205,7 +193,7 @@ module _ (limit bound : ℕ) (start now : World) (trace so_far rest : List Trace
   pub each_served : ServesEach now
   each_served row at = elim known [
     | inl u ↦ absurd
-        (no_handles limit bound (turns_of so_far) (turns_of rest) start now begins (quiet u) r d_cut row at)
+        (no_handles limit bound (turns_of so_far) (turns_of rest) start now new.0 (quiet u) r d_cut row at)
     | inr well ↦ handles_law limit bound (turns_of so_far) (turns_of rest) start now row (starts well) d_cut r at
   ]
 
@@ -217,46 +205,53 @@ module _ (limit bound : ℕ) (start now : World) (trace so_far rest : List Trace
 
   pub all_kept : AreKept start bound (turns_of so_far) now
   all_kept = elim known [
-    | inl u ↦ keeps_none limit bound (turns_of so_far) (turns_of rest) start now begins (quiet u) r d_cut
+    | inl u ↦ keeps_none limit bound (turns_of so_far) (turns_of rest) start now new.0 (quiet u) r d_cut
     | inr well ↦ kept_law limit bound (turns_of so_far) (turns_of rest) start now (starts well) d_cut r
   ]
 
-  pub named_before : ComeFromNames start (turns_of so_far) now
-  named_before number object is = elim known [
-    | inl u ↦ absurd (no_objects (turns_of so_far) start now past (quiet u) r number object is)
-    | inr well ↦ origins_law limit bound (turns_of so_far) (turns_of rest) start now number object (starts well)
-        d_cut r is
+  pub named_before : ComeFromNames now
+  named_before = elim known [
+    | inl u ↦ λ number object is.
+        absurd (no_objects (turns_of so_far) start now new.1 (quiet u) r number object is)
+    | inr well ↦ origins_law limit bound (turns_of so_far) (turns_of rest) start now (starts well) d_cut r
   ]
 
 -- each call names only open descriptors
 names_from : (limit bound : ℕ) (start now : World) (trace so_far : List TraceStep) (step : TraceStep)
-    (rest : List TraceStep) → start.tables ≡ empty_tables limit → start.past ≡ no_past →
+    (rest : List TraceStep) → IsNew limit start →
     AreUncalled (turns_of trace) ⊎ IsWellFormed start.tree → trace ≡ so_far ++ step ∷ rest →
     AreDisciplined bound (turns_of trace) → WorldRuns start (turns_of so_far) now →
     NamesOpen now.tree (kept_deed_of step.act)
-names_from limit bound start now trace so_far step rest begins past known e d r = elim known [
+names_from limit bound start now trace so_far step rest new known e d r = elim known [
   | inl u ↦ names_none now.tree (kept_deed_of step.act)
       (uncalled_at (turns_of so_far) (turn_of step) (turns_of rest)
       (subst AreUncalled (ap turns_of e ∙ turns-append so_far (step ∷ rest)) u)).0
   | inr well ↦ named_law limit bound (turns_of so_far) (turn_of step) (turns_of rest) start now
-      (record { tables = begins; well_formed = well; past = past })
+      (starts_by limit start new well)
       (cut_at bound trace so_far (step ∷ rest) e d) r
 ]
 
 -- two entries of one object have one number
-agree_from : (limit bound : ℕ) (turns : List Turn) (start first second : World) (job other parent folder : ℕ)
-    (name child : List ℕ) (number another : ℕ) (ids its : ObjIds) (between : List Turn) (object : ℕ)
-    (one : GivingPlaces turns job parent name number ids) (two : GivingPlaces turns other folder child another its) →
-    start.tables ≡ empty_tables limit → start.past ≡ no_past → AreUncalled turns ⊎ IsWellFormed start.tree →
-    AreDisciplined bound turns → up_to two ≡ up_to one ++ between → WorldRuns start (up_to one) first →
-    WorldRuns first between second → StaysLive first between number → ObjectOf first number object →
-    ObjectOf second another object → another ≡ number
-agree_from limit bound turns start first second job other parent folder name child number another ids its between
-    object one two begins past (inl u) d = absurd (no_places u one)
-agree_from limit bound turns start first second job other parent folder name child number another ids its between
-    object one two begins past (inr well) d =
-    two_lookups_law limit bound turns [] start first second job other parent folder name child number another ids its
-    between object one two (record { tables = begins; well_formed = well; past = past }) (rw append-nil d)
+agree_from : (limit bound : ℕ) (trace so_far between rest : List TraceStep) (start first second : World)
+    (job number another object : ℕ) → IsNew limit start → AreUncalled (turns_of trace) ⊎ IsWellFormed start.tree →
+    AreDisciplined bound (turns_of trace) → trace ≡ (so_far ++ between) ++ rest →
+    WorldRuns start (turns_of so_far) first → WorldRuns first (turns_of between) second →
+    StaysLive first (turns_of between) number → WasGiven (turns_of so_far ++ turns_of between) job another →
+    ObjectOf first number object → ObjectOf second another object → another ≡ number
+agree_from limit bound trace so_far between rest start first second job number another object new known d e r k live
+    gave is has =
+    let turns : turns_of trace ≡ (turns_of so_far ++ turns_of between) ++ turns_of rest =
+    ap turns_of e ∙ turns-append (so_far ++ between) rest
+    ∙ ap (λ (t : List Turn). t ++ turns_of rest) (turns-append so_far between) in
+    elim known [
+      | inl u ↦
+          let front = uncalled_front (turns_of so_far) (turns_of between)
+          (uncalled_front (turns_of so_far ++ turns_of between) (turns_of rest) (subst AreUncalled turns u)) in
+          absurd (no_objects (turns_of so_far) start first new.1 front r number object is)
+      | inr well ↦ two_lookups_law limit bound (turns_of so_far) (turns_of between) (turns_of rest) start first second
+          job number another object (starts_by limit start new well) (subst (AreDisciplined bound) turns d) r k live
+          gave is has
+    ]
 
 pub keeps_told : {H : Type 0} (does : HostRelation H) (tree : H → Option Tree) (faults : H → ℕ) → Promises does faults →
     Tells does tree → (plan : Plan) (limit : ℕ) (jobs : List Job) (host : H) (tables : Tables)
@@ -284,39 +279,34 @@ keeps_told does tree faults p tells plan limit jobs host tables trace answers ho
                 (subst (λ (turns : List Turn). WorldRuns (begins_in t tables) turns w.0)
                 (ap turns_of e ∙ turns-append so_far rest) w.3)),
           );
-      two_lookups = λ t is job other parent folder name child entry another one two between first second object.
-          agree_from limit bound (turns_of trace) (begins_in t tables) first second job other parent folder name child
-          entry.inode another.inode one.looked_up.stat.ids two.looked_up.stat.ids between object one.given two.given
-          ran.begins refl (known t is) disciplined;
+      two_lookups = λ t is so_far between rest first second job number another object e r k live gave at has.
+          agree_from limit bound trace so_far between rest (begins_in t tables) first second job number another object
+          (ran.begins, refl, refl) (known t is) disciplined e r k live gave at has;
       origins = λ t is so_far rest now e r.
-          named_before limit bound (begins_in t tables) now trace so_far rest ran.begins refl (known t is) e
+          named_before limit bound (begins_in t tables) now trace so_far rest (ran.begins, refl, refl) (known t is) e
           disciplined r;
       distinct = λ t is so_far rest now e r.
-          objects_kept limit bound (begins_in t tables) now trace so_far rest ran.begins refl (known t is) e
+          objects_kept limit bound (begins_in t tables) now trace so_far rest (ran.begins, refl, refl) (known t is) e
           disciplined r;
       serves = λ t is so_far rest now e r.
-          each_served limit bound (begins_in t tables) now trace so_far rest ran.begins refl (known t is) e
+          each_served limit bound (begins_in t tables) now trace so_far rest (ran.begins, refl, refl) (known t is) e
           disciplined r;
       reopens = λ t is so_far rest now e r.
-          all_reopened limit bound (begins_in t tables) now trace so_far rest ran.begins refl (known t is) e
+          all_reopened limit bound (begins_in t tables) now trace so_far rest (ran.begins, refl, refl) (known t is) e
           disciplined r;
       descriptors = λ t is so_far rest now e r.
-          all_kept limit bound (begins_in t tables) now trace so_far rest ran.begins refl (known t is) e
+          all_kept limit bound (begins_in t tables) now trace so_far rest (ran.begins, refl, refl) (known t is) e
           disciplined r;
       named = λ t is so_far rest step now e r.
-          names_from limit bound (begins_in t tables) now trace so_far step rest ran.begins refl (known t is) e
+          names_from limit bound (begins_in t tables) now trace so_far step rest (ran.begins, refl, refl) (known t is) e
           disciplined r;
       leaves = λ t is end r. elim (known t is) [
         | inl u ↦ leaves_none limit bound (turns_of trace) (begins_in t tables) end ran.begins u r ended
         | inr well ↦ leaves_law limit bound (turns_of trace) (begins_in t tables) end
-            (record { tables = ran.begins; well_formed = well; past = refl }) ended r
+            (starts_by limit (begins_in t tables) (ran.begins, refl, refl) well) ended r
       ];
       entries = λ j job given at told_at.
           entered_by limit plan jobs (tree host) tables trace ran.begins disciplined known j job given
-          (hosts_told does faults p j (turns_of trace) host tables host' tables' runs)
-          (rw (steps_same j trace) (ran.comes j job given at told_at));
-      created = λ j job given at told_at.
-          file_by limit plan jobs (tree host) tables trace ran.begins disciplined known j job given
           (hosts_told does faults p j (turns_of trace) host tables host' tables' runs)
           (rw (steps_same j trace) (ran.comes j job given at told_at));
     }

@@ -5,7 +5,6 @@ use Rattle.std.proofs.Common.{Option, Some, None, refl, ap, sym, subst, arith}
 use Rattle.pt_host.specs.Words.{Each, set_at, total}
 use Rattle.pt_host.specs.Tree.{Tree, IsOpenOn, IsWellFormed}
 use Rattle.pt_host.specs.declared.ids.Fd.{Fd}
-use Rattle.pt_host.specs.declared.ids.ObjIds.{ObjIds}
 use Rattle.pt_host.specs.declared.seat.HostSeat.{HostSeat}
 use Rattle.pt_session.specs.Rows.{IsRow, IsHandleRow}
 use Rattle.pt_session.specs.Tables.{Tables, empty_tables}
@@ -13,17 +12,17 @@ use Rattle.pt_session.specs.declared.event.KeptEvent.TheVariants as change
 use Rattle.pt_session.specs.declared.reply.EventReply.TheVariants as event
 use Rattle.pt_session.specs.declared.row.HandleRow.{HandleRow}
 use Rattle.pt_session.specs.declared.row.Row.{Row}
-use Rattle.pt_frame.specs.Deed.{Deed, Calls, Changes}
+use Rattle.pt_frame.specs.Deed.{Deed, Calls, Changes, Step}
 use Rattle.pt_frame.specs.Made.{Made}
 use Rattle.pt_frame.specs.declared.act.ActReply.{ActReply}
 use Rattle.pt_frame.specs.declared.act.ActReply.TheVariants.{Event, Host, NoCopy}
-use Rattle.pt_law.specs.Giving.{GivingPlaces}
 use Rattle.pt_law.specs.Discipline.{AreDisciplined, AreEnded}
 use Rattle.pt_law.specs.Laws.{AreKept, LeavesRows, NamesOpen, Starts}
 use Rattle.pt_law.specs.Ledger.{kept_fds, open_count, row_has, handle_has}
-use Rattle.pt_law.specs.Naming.{resolving, opening}
-use Rattle.pt_law.specs.World.{Turn, turn_by, World, Past, no_past, settled_if, IsLawful, Runs}
+use Rattle.pt_law.specs.Story.{Story, no_story}
+use Rattle.pt_law.specs.World.{Turn, turn_by, World, Past, no_past, settled_if, story_by, IsLawful, Runs, steps_of}
 use Rattle.pt_law.specs.Reopened.{reopening, ReopensResolved}
+use Rattle.pt_law.proofs.Cuts.{located}
 use Rattle.pt_law.proofs.Laws.{object_law, handles_law, kept_law, leaves_law}
 use Rattle.pt_law.proofs.Lists.{each_front}
 use Rattle.pt_fs.specs.Keeps.{KeepsObjects}
@@ -124,19 +123,22 @@ made_anywhere (Some (Calls asked)) told tree seat tables later seat' tables' oth
 made_anywhere None NoCopy tree seat tables later seat' tables' other u m = (refl, m.1, m.2)
 made_anywhere None told tree seat tables later seat' tables' other u m = absurd m
 
-abbrev in_no_tree : Tables → Past → World
-in_no_tree tables past = record { tree = no_tree; tables = tables; past = past }
+abbrev in_no_tree : Tables → Past → Story → World
+in_no_tree tables past story = record { tree = no_tree; tables = tables; past = past; story = story }
 
 -- such a run could be made of any tree
-run_anywhere : (turns : List Turn) (start now : World) (past : Past) → AreUncalled turns → Runs start turns now →
-    (end : World) × (end.tables ≡ now.tables) × (end.tree ≡ no_tree) × Runs (in_no_tree start.tables past) turns end
-run_anywhere [] start now past u r =
-    (in_no_tree start.tables past, ap (λ (w : World). w.tables) (sym r), refl, refl)
-run_anywhere (turn ∷ turns) start now past u r =
+run_anywhere : (turns : List Turn) (start now : World) (past : Past) (story : Story) → AreUncalled turns →
+    Runs start turns now →
+    (end : World) × (end.tables ≡ now.tables) × (end.tree ≡ no_tree)
+    × Runs (in_no_tree start.tables past story) turns end
+run_anywhere [] start now past story u r =
+    (in_no_tree start.tables past story, ap (λ (w : World). w.tables) (sym r), refl, refl)
+run_anywhere (turn ∷ turns) start now past story u r =
     let goes = r.1 in
-    let next = in_no_tree r.0.tables
-    (settled_if past turn.job turn.step.deed turn.step.reply start.tables.next_row no_tree) in
-    let rest = run_anywhere turns r.0 now next.past u.1 r.2 in (
+    let later = settled_if past turn.job turn.step.deed turn.step.reply start.tables.next_row no_tree in
+    let next = in_no_tree r.0.tables later
+    (story_by (in_no_tree start.tables past story) later no_tree turn.job turn.step.deed turn.step.reply) in
+    let rest = run_anywhere turns r.0 now next.past next.story u.1 r.2 in (
       rest.0,
       rest.1,
       rest.2,
@@ -148,6 +150,7 @@ run_anywhere (turn ∷ turns) start now past u r =
           made = made_anywhere turn.step.deed turn.step.reply start.tree goes.seat start.tables r.0.tree
               goes.seat_after r.0.tables no_tree u.0 goes.made;
           past = refl;
+          story = refl;
         },
         rest.3,
       ),
@@ -156,27 +159,27 @@ run_anywhere (turn ∷ turns) start now past u r =
 module _ (limit bound : ℕ) (turns more : List Turn) (start now : World) (begins : start.tables ≡ empty_tables limit)
     (u : AreUncalled turns) (r : Runs start turns now) where
   there : (end : World) × (end.tables ≡ now.tables) × (end.tree ≡ no_tree)
-      × Runs (in_no_tree start.tables no_past) turns end
-  there = run_anywhere turns start now no_past u r
+      × Runs (in_no_tree start.tables no_past no_story) turns end
+  there = run_anywhere turns start now no_past no_story u r
 
-  starts : Starts limit (in_no_tree start.tables no_past)
-  starts = record { tables = begins; well_formed = no_tree_formed; past = refl }
+  starts : Starts limit (in_no_tree start.tables no_past no_story)
+  starts = record { tables = begins; well_formed = no_tree_formed; past = refl; story = refl }
 
   pub no_rows : AreDisciplined bound (turns ++ more) → (row : Row) → IsRow now.tables row → ⊥
   no_rows d row at =
-      let has = object_law limit bound turns more (in_no_tree start.tables no_past) there.0 row starts d there.3
+      let has = object_law limit bound turns more (in_no_tree start.tables no_past no_story) there.0 row starts d there.3
       (subst (λ (t : Tables). IsRow t row) (sym there.1) at) in
       none_open there.0.tree _ has.object there.2 has.open_on
 
   pub no_handles : AreDisciplined bound (turns ++ more) → (row : HandleRow) → IsHandleRow now.tables row → ⊥
   no_handles d row at =
-      let has = handles_law limit bound turns more (in_no_tree start.tables no_past) there.0 row starts d there.3
+      let has = handles_law limit bound turns more (in_no_tree start.tables no_past no_story) there.0 row starts d there.3
       (subst (λ (t : Tables). IsHandleRow t row) (sym there.1) at) in
       none_open there.0.tree _ has.0 there.2 has.2
 
   pub keeps_none : AreDisciplined bound (turns ++ more) → AreKept start bound turns now
   keeps_none d =
-      let kept = kept_law limit bound turns more (in_no_tree start.tables no_past) there.0 starts d there.3 in
+      let kept = kept_law limit bound turns more (in_no_tree start.tables no_past no_story) there.0 starts d there.3 in
       record {
         once = λ fd.
             let one = kept.once fd in
@@ -196,9 +199,9 @@ module _ (limit bound : ℕ) (turns more : List Turn) (start now : World) (begin
 pub leaves_none : (limit bound : ℕ) (turns : List Turn) (start end : World) → start.tables ≡ empty_tables limit →
     AreUncalled turns → Runs start turns end → AreEnded bound turns → LeavesRows start end
 leaves_none limit bound turns start end begins u r ended fd =
-    let there = run_anywhere turns start end no_past u r in
-    let left = leaves_law limit bound turns (in_no_tree start.tables no_past) there.0
-    (record { tables = begins; well_formed = no_tree_formed; past = refl }) ended there.3 fd in
+    let there = run_anywhere turns start end no_past no_story u r in
+    let left = leaves_law limit bound turns (in_no_tree start.tables no_past no_story) there.0
+    (record { tables = begins; well_formed = no_tree_formed; past = refl; story = refl }) ended there.3 fd in
     let none = count_none there.0.tree fd there.2 in
     let nothing = count_none no_tree fd refl in
     let rows = ap (λ (t : Tables). total (row_has fd) t.rows) there.1 in
@@ -211,15 +214,12 @@ names_none tree None u = tt
 names_none tree (Some (Changes asked)) u = tt
 names_none tree (Some (Calls asked)) u = absurd u
 
--- no name is opened, so no entry was answered
-pub no_places : {turns : List Turn} {job parent : ℕ} {name : List ℕ} {number : ℕ} {ids : ObjIds} →
-    AreUncalled turns → GivingPlaces turns job parent name number ids → ⊥
-no_places {job = job} {parent = parent} {name = name} u places =
-    let p = places.opened in
-    let all = subst AreUncalled p.in_turn u in
-    let after = uncalled_at p.before (turn_by job (resolving parent p.resolved))
-    (p.between ++ turn_by job (opening p.dir name p.flags p.made_mode p.fd) ∷ p.later) all in
-    (uncalled_at p.between (turn_by job (opening p.dir name p.flags p.made_mode p.fd)) p.later after.1).0
+-- no job makes a call
+pub no_call : (turns : List Turn) (job : ℕ) (first : List Step) (step : Step) (rest : List Step) →
+    AreUncalled turns → steps_of job turns ≡ first ++ step ∷ rest → IsUncalled step.deed
+no_call turns job first step rest u e =
+    let x = located job turns first step rest e in
+    (uncalled_at x.0 (turn_by job step) x.1 (subst AreUncalled x.2 u)).0
 
 -- nothing of an object is settled
 record Blank (past : Past) : Type 0 where

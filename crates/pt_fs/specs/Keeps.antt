@@ -1,5 +1,5 @@
 -- Believed. What a run keeps after every step and at its end, in whatever order its jobs took their steps.
-use Rattle.std.specs.Prelude.{◌≡◌, ◌≢◌, ◌≤◌, ◌⊎◌, ℕ, List, ◌∷◌, ◌++◌, Option, Some, None, map, slice_get}
+use Rattle.std.specs.Prelude.{◌≡◌, ◌≢◌, ◌≤◌, ℕ, List, ◌∷◌, ◌++◌, Option, Some, None, length, map, slice_get}
 use Rattle.pt_host.specs.Tree.{Tree}
 use Rattle.pt_host.specs.declared.seat.HostSeat.{HostSeat}
 use Rattle.pt_session.specs.Tables.{Tables}
@@ -9,8 +9,8 @@ use Rattle.pt_session.specs.declared.row.Row.{Row}
 use Rattle.pt_session.specs.declared.row.HandleRow.{HandleRow}
 use Rattle.pt_iface.specs.declared.answer.Answer.{Answer}
 use Rattle.pt_iface.specs.declared.answer.Answer.TheVariants as answer
-use Rattle.pt_iface.specs.declared.entry.Entry.{Entry}
 use Rattle.pt_frame.specs.Deed.{kept_deed_of}
+use Rattle.pt_frame.specs.declared.finish.Finish.{Finish}
 use Rattle.pt_frame.specs.declared.finish.Finish.TheVariants as finish
 use Rattle.pt_frame.specs.Memory.{RanOut}
 use Rattle.pt_req.specs.declared.plan.Plan.{Plan}
@@ -18,15 +18,16 @@ use Rattle.pt_fit.specs.Asker.{role_for}
 use Rattle.pt_fit.specs.Cause.{IsCausedBy}
 use Rattle.pt_fit.specs.Created.{IsCreated}
 use Rattle.pt_fit.specs.Decided.{decides}
-use Rattle.pt_fit.specs.Entered.{EntryPlaces, IsEntered, name_asked}
+use Rattle.pt_fit.specs.Entered.{IsEntered, name_asked}
 use Rattle.pt_fit.specs.Handled.{KeepsHandle}
 use Rattle.pt_law.specs.Agreed.{agreed_after}
-use Rattle.pt_law.specs.Giving.{up_to}
+use Rattle.pt_law.specs.Findings.{WasGiven}
 use Rattle.pt_law.specs.Laws.{ObjectOf, AreDistinct, HasObject, IsCounted, IsStanding, IsOpenAsResolved, TellsOvertaken}
 use Rattle.pt_law.specs.Laws.{IsOvertaken, TellsGiven, IsHonoured, NamesOpen, LeavesRows}
 use Rattle.pt_law.specs.Ledger.{given, inserted, handle_inserted, standing, slots_taken, slots_given}
-use Rattle.pt_law.specs.Origins.{WasRoot, WasNamed}
+use Rattle.pt_law.specs.Polite.{IsPolite, CountsOutstanding, TakesOneEach}
 use Rattle.pt_law.specs.Settled.{HasSettled}
+use Rattle.pt_law.specs.Story.{no_story}
 use Rattle.pt_law.specs.Under.{IsSeated}
 use Rattle.pt_law.specs.Uses.{StaysLive}
 use Rattle.pt_law.specs.World.{Turn, World, TablesRun, no_past, Runs as WorldRuns}
@@ -49,7 +50,7 @@ AfterEach tables trace P =
 
 -- the world in which a run begins, where the host tells this tree
 abbrev pub begins_in : Tree → Tables → World
-begins_in tree tables = record { tree = tree; tables = tables; past = no_past }
+begins_in tree tables = record { tree = tree; tables = tables; past = no_past; story = no_story }
 
 -- where the host told its tree
 abbrev pub WhereTold : Option Tree → Tables → (World → Type 0) → Type 0
@@ -60,6 +61,11 @@ abbrev pub AfterEachTold : Option Tree → Tables → List TraceStep → (World 
 AfterEachTold told tables trace P = WhereTold told tables (λ start.
     (so_far rest : List TraceStep) (now : World) → trace ≡ so_far ++ rest → WorldRuns start (turns_of so_far) now →
     P start (turns_of so_far) now)
+
+-- at the end: of the world to which all steps led
+abbrev pub AtEndTold : Option Tree → Tables → List TraceStep → (World → Type 0) → Type 0
+AtEndTold told tables trace P =
+    WhereTold told tables (λ start. (end : World) → WorldRuns start (turns_of trace) end → P end)
 
 -- each front of the trace leads to some tables, and what is left of it leads on from there to the end
 abbrev pub ReachesEach : Tables → List TraceStep → Tables → Type 0
@@ -149,21 +155,29 @@ IsCausedIn plan trace j job told = IsCausedBy plan (asked_of job) (steps_by j tr
 abbrev pub RanOutIn : List TraceStep → ℕ → Job → Answer → Type 0
 RanOutIn trace j job told = told ≡ answer.NoMemory → RanOut (steps_by j trace)
 
--- it names the object that the name which was asked had in the directory that its parent stood for
-abbrev pub IsEntryIn :
-    (plan : Plan) →
-    (told : Option Tree) →
-    (tables : Tables) →
-    (trace : List TraceStep) →
-    (j : ℕ) →
-    (job : Job) →
-    (entry : Entry) →
-    Type 0
-IsEntryIn plan told tables trace j job entry =
-    (parent : ℕ) × (name : List ℕ) × (name_asked (asked_of job) ≡ Some (parent, name))
-    × WhereTold told tables (λ start. IsEntered plan start (turns_of trace) j parent name entry)
+-- how a job ended that was answered so
+abbrev pub finish_of : Option Answer → Finish
+finish_of None = finish.Answer answer.NoReply
+finish_of (Some told) = finish.Answer told
 
--- An entry is the answer of a lookup, or of `create` with a handle, and names what its name led to.
+abbrev pub finish_at : List Answer → ℕ → Finish
+finish_at answers j = finish_of (slice_get answers j)
+
+-- Where the guest asks no more than is outstanding, each number's count at the end is what is outstanding of it less
+-- what it was asked, and each count that a job gave back was taken, unless it was told that it was overtaken.
+abbrev pub ServesPolite : List Job → List Answer → List TraceStep → Tables → Type 0
+ServesPolite jobs answers trace tables' = IsPolite (length jobs) (finish_at answers) (turns_of trace) →
+    CountsOutstanding (length jobs) (finish_at answers) (turns_of trace) tables' × TakesOneEach (turns_of trace)
+
+-- what was asked names a parent and a name, of which this holds at the end
+abbrev pub OfName : Option Tree → Tables → List TraceStep → Job → (ℕ → List ℕ → World → Type 0) → Type 0
+OfName told tables trace job P =
+    (parent : ℕ) × (name : List ℕ) × (name_asked (asked_of job) ≡ Some (parent, name))
+    × AtEndTold told tables trace (P parent name)
+
+-- An entry names the object to which the name led that was asked, in the directory that its parent stood for. A file
+-- that `create` answered is moreover one that its job made, or one that was there where its job made nothing, and the
+-- handle is open on it.
 abbrev pub IsNamedIn :
     (plan : Plan) →
     (told : Option Tree) →
@@ -173,26 +187,11 @@ abbrev pub IsNamedIn :
     (job : Job) →
     (answer : Answer) →
     Type 0
-IsNamedIn plan told tables trace j job (answer.Entry entry) = IsEntryIn plan told tables trace j job entry
+IsNamedIn plan told tables trace j job (answer.Entry entry) =
+    OfName told tables trace job (λ parent name end. IsEntered plan end (steps_by j trace) j parent name entry)
 IsNamedIn plan told tables trace j job (answer.Created entry handle options) =
-    IsEntryIn plan told tables trace j job entry
+    OfName told tables trace job (λ parent name end. IsCreated plan end (steps_by j trace) j parent name entry handle)
 IsNamedIn plan told tables trace j job other = Unit {0}
-
--- A file that `create` answered is one that its job made, or one that was there where its job made nothing: the entry
--- names that object, and the handle is open on it.
-abbrev pub IsCreatedIn :
-    (plan : Plan) →
-    (told : Option Tree) →
-    (tables : Tables) →
-    (trace : List TraceStep) →
-    (j : ℕ) →
-    (job : Job) →
-    (answer : Answer) →
-    Type 0
-IsCreatedIn plan told tables trace j job (answer.Created entry handle options) =
-    (parent : ℕ) × (name : List ℕ) × (name_asked (asked_of job) ≡ Some (parent, name))
-    × WhereTold told tables (λ start. IsCreated plan start (turns_of trace) j parent name entry handle)
-IsCreatedIn plan told tables trace j job other = Unit {0}
 
 -- Each job that has a seat makes its steps as whoever asks or as it began, without the capability that it drops for a
 -- call, restores what it changes, and ends as it began, until a step that restores its seat fails.
@@ -202,20 +201,13 @@ SeatedEach plan jobs trace =
     IsSeated (role_for plan seat (asked_of job)) seat (steps_by j trace)
 
 -- Two entries of one object have one number, where the number that was given first lives until the other is given.
-abbrev pub AgreeOnNumbers : Plan → Option Tree → Tables → List TraceStep → Type 0
-AgreeOnNumbers plan told tables trace = WhereTold told tables (λ start.
-    (job other parent folder : ℕ) (name child : List ℕ) (entry another : Entry)
-    (one : EntryPlaces plan (turns_of trace) job parent name entry)
-    (two : EntryPlaces plan (turns_of trace) other folder child another) (between : List Turn) (first second : World)
-    (object : ℕ) → up_to two.given ≡ up_to one.given ++ between → WorldRuns start (up_to one.given) first →
-    WorldRuns first between second → StaysLive first between entry.inode → ObjectOf first entry.inode object →
-    ObjectOf second another.inode object → another.inode ≡ entry.inode)
-
--- every numbered object was opened as a root, or by a name that led there from a directory that was found numbered
-abbrev pub ComeFromNames : World → List Turn → World → Type 0
-ComeFromNames start so_far now =
-    (number object : ℕ) → ObjectOf now number object →
-    WasRoot start so_far now object ⊎ WasNamed start so_far now object
+abbrev pub AgreeOnNumbers : Option Tree → Tables → List TraceStep → Type 0
+AgreeOnNumbers told tables trace = WhereTold told tables (λ start.
+    (so_far between rest : List TraceStep) (first second : World) (job number another object : ℕ) →
+    trace ≡ (so_far ++ between) ++ rest → WorldRuns start (turns_of so_far) first →
+    WorldRuns first (turns_of between) second → StaysLive first (turns_of between) number →
+    WasGiven (turns_of so_far ++ turns_of between) job another → ObjectOf first number object →
+    ObjectOf second another object → another ≡ number)
 
 -- each call names only descriptors that are open at its step
 abbrev pub NamesOpenOnes : Option Tree → Tables → List TraceStep → Type 0

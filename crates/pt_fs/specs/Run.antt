@@ -7,12 +7,12 @@ use Rattle.pt_iface.specs.declared.answer.Answer.{Answer}
 use Rattle.pt_host.specs.Relation.{HostRelation}
 use Rattle.pt_req.specs.declared.plan.Plan.{Plan}
 use Rattle.pt_law.specs.Laws.{SlotsAddUp, IsAtRest, AreKept}
+use Rattle.pt_law.specs.Origins.{ComeFromNames}
 use Rattle.pt_law.specs.Reopened.{ReopensResolved}
 use Rattle.pt_fs.specs.Keeps.{turns_of, AfterEach, AfterEachTold, ReachesEach, LeadsOn, KeepsObjects, KeepsCounts}
 use Rattle.pt_fs.specs.Keeps.{KeepsHandles, KeepsOptions, ServesEach, InsertsOnce, OvertakenAsTold, ShutsOut}
-use Rattle.pt_fs.specs.Keeps.{OfEachJob}
-use Rattle.pt_fs.specs.Keeps.{GivesAllBack, IsCausedIn, RanOutIn, IsNamedIn, IsCreatedIn, AgreeOnNumbers}
-use Rattle.pt_fs.specs.Keeps.{ComeFromNames, NamesOpenOnes, LeavesOpen, HonoursEach, SeatedEach}
+use Rattle.pt_fs.specs.Keeps.{OfEachJob, GivesAllBack, IsCausedIn, RanOutIn, IsNamedIn, AgreeOnNumbers, NamesOpenOnes}
+use Rattle.pt_fs.specs.Keeps.{LeavesOpen, HonoursEach, SeatedEach, ServesPolite}
 use Rattle.pt_fs.specs.Trace.{RunsJobs, SeatsBack, IsBounded, room_of}
 use Rattle.pt_fs.specs.declared.job.Job.{Job}
 use Rattle.pt_fs.specs.declared.trace.TraceStep.{TraceStep}
@@ -62,6 +62,9 @@ pub record IsRun
   -- After every step a number is live exactly where something was given of it and not taken back, and so much is its
   -- count.
   pub counts : AfterEach tables trace KeepsCounts
+  -- Where the guest forgets no more than it holds, in whatever order the steps come: at the end a number's count is its
+  -- outstanding entries less what was asked of them.
+  pub polite : ServesPolite jobs answers trace tables'
   -- After every step a handle is live exactly where it was inserted and neither released nor cleared since.
   pub handles : AfterEach tables trace KeepsHandles
   -- After every step what is agreed on is what the `init` decided that began the session, once its root was inserted,
@@ -90,9 +93,8 @@ pub record IsRun
   -- or was there, and the handle is open on it; two entries of one object have one number while it lives; and every
   -- numbered object is a root or was so named.
   pub entries : OfEachJob jobs answers (IsNamedIn plan told tables trace)
-  pub created : OfEachJob jobs answers (IsCreatedIn plan told tables trace)
-  pub two_lookups : AgreeOnNumbers plan told tables trace
-  pub origins : AfterEachTold told tables trace ComeFromNames
+  pub two_lookups : AgreeOnNumbers told tables trace
+  pub origins : AfterEachTold told tables trace (λ start so_far now. ComeFromNames now)
   -- Each call names only open descriptors; each open one stands in one place; at the end those of the rows are left,
   -- and those from before.
   pub names_open : NamesOpenOnes told tables trace

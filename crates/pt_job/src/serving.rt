@@ -54,7 +54,8 @@ fn make_next<A: SessionAccess, H: Host>(
     }
 }
 
-/// Takes the steps of a job that begins with this seat, until it is finished.
+/// Takes the steps of a job that begins with this seat, until it is finished. It is not cut; where it loses the seat, it
+/// tells what the first step was told that was to restore it.
 pub fn serve<A: SessionAccess, H: Host>(
     plan: &Plan,
     access: &mut A,

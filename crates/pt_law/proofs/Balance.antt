@@ -24,7 +24,8 @@ use Rattle.pt_law.specs.Ledger.{row_slot, closing_slot, form_slot, kept_slots, r
 use Rattle.pt_law.specs.Ledger.{kept_fds}
 use Rattle.pt_law.specs.Ledger.{fd_handed, fd_received, pin_made, pin_ended, handle_pin_made}
 use Rattle.pt_law.specs.Ledger.{handle_pin_ended, closing_ended}
-use Rattle.pt_law.proofs.Flows.{slot_in, slot_out}
+use Rattle.pt_law.specs.Ledger.{slot_taken}
+use Rattle.pt_law.proofs.Flows.{slot_in}
 use Rattle.pt_law.proofs.Flows.{row_pins, handle_pins, IsHonest}
 use Rattle.pt_law.proofs.Lists.{total_takes, total_replaces, total_push, length_takes, length_replaces}
 
@@ -44,7 +45,7 @@ closing_fd_of fd row = go row.form
 -- what the tables have more after, and less: descriptors, slots, pins and closings
 pub record Moved (t after : Tables) (deed : Deed) (told : ActReply) : Type 0 where
   pub fds : (fd : ℕ) → kept_fds fd after + fd_received fd deed told ≡ kept_fds fd t + fd_handed fd deed told
-  pub slots : kept_slots after + slot_out deed told ≡ kept_slots t + slot_in deed told
+  pub slots : kept_slots after + slot_taken deed told ≡ kept_slots t + slot_in deed told
   pub pins : (serial : ℕ) →
       total (row_pins serial) after.rows + pin_ended serial deed told
       ≡ total (row_pins serial) t.rows + pin_made serial deed told
@@ -158,7 +159,7 @@ sheds_all t (pair ∷ pairs) n after h =
 -- a deed that moves nothing but the closings it tells
 moved_by : (t after : Tables) (n : ℕ) (deed : Deed) (told : ActReply) → Sheds t after n → closings_in deed told ≡ n →
     closing_ended deed told ≡ 0 →
-    ((fd : ℕ) → fd_received fd deed told ≡ fd_handed fd deed told) → slot_out deed told ≡ slot_in deed told →
+    ((fd : ℕ) → fd_received fd deed told ≡ fd_handed fd deed told) → slot_taken deed told ≡ slot_in deed told →
     ((serial : ℕ) → pin_ended serial deed told ≡ pin_made serial deed told) →
     ((serial : ℕ) → handle_pin_ended serial deed told ≡ handle_pin_made serial deed told) → Moved t after deed told
 moved_by t after n deed told s c e f l p q = record {
@@ -171,7 +172,7 @@ moved_by t after n deed told s c e f l p q = record {
 
 same : (t after : Tables) (deed : Deed) (told : ActReply) → after ≡ t → closings_in deed told ≡ 0 →
     closing_ended deed told ≡ 0 →
-    ((fd : ℕ) → fd_received fd deed told ≡ fd_handed fd deed told) → slot_out deed told ≡ slot_in deed told →
+    ((fd : ℕ) → fd_received fd deed told ≡ fd_handed fd deed told) → slot_taken deed told ≡ slot_in deed told →
     ((serial : ℕ) → pin_ended serial deed told ≡ pin_made serial deed told) →
     ((serial : ℕ) → handle_pin_ended serial deed told ≡ handle_pin_made serial deed told) → Moved t after deed told
 same t after deed told e = rw e (moved_by t t 0 deed told (sheds_none t))
@@ -179,7 +180,7 @@ same t after deed told e = rw e (moved_by t t 0 deed told (sheds_none t))
 again : (t : Tables) (row : Row) (after : Tables) (deed : Deed) (told : ActReply) →
     ChangesRow number_rows t row (record row { count = row.count + 1 }) after → closings_in deed told ≡ 0 →
     closing_ended deed told ≡ 0 →
-    ((fd : ℕ) → fd_received fd deed told ≡ fd_handed fd deed told) → slot_out deed told ≡ slot_in deed told →
+    ((fd : ℕ) → fd_received fd deed told ≡ fd_handed fd deed told) → slot_taken deed told ≡ slot_in deed told →
     ((serial : ℕ) → pin_ended serial deed told ≡ pin_made serial deed told) →
     ((serial : ℕ) → handle_pin_ended serial deed told ≡ handle_pin_made serial deed told) → Moved t after deed told
 again t row after deed told h = moved_by t after 0 deed told (recounts t row _ after refl refl refl h)
@@ -215,7 +216,7 @@ unpinned t serial n after (row, pins, s, p, inr h) =
 
 inserts : (t : Tables) (number : ℕ) (form : RowForm) (row : Row) (deed : Deed) (told : ActReply) → row.form ≡ form →
     row.pins ≡ 0 → ((fd : ℕ) → fd_received fd deed told + row_has fd row ≡ fd_handed fd deed told) →
-    slot_out deed told + row_slot row ≡ slot_in deed told →
+    slot_taken deed told + row_slot row ≡ slot_in deed told →
     ((serial : ℕ) → pin_ended serial deed told ≡ pin_made serial deed told) →
     ((serial : ℕ) → handle_pin_ended serial deed told ≡ handle_pin_made serial deed told) →
     closings_in deed told ≡ 0 → closing_ended deed told ≡ 0 →

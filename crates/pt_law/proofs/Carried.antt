@@ -14,6 +14,8 @@ use Rattle.pt_host.specs.declared.reply.HostReply.TheVariants as host
 use Rattle.pt_host.specs.declared.reply.HostValue.TheVariants as value
 use Rattle.pt_host.specs.declared.seat.HostSeat.{HostSeat}
 use Rattle.pt_session.specs.Tables.{Tables}
+use Rattle.pt_session.specs.declared.event.NewHandle.{NewHandle}
+use Rattle.pt_session.specs.declared.event.KeptEvent.TheVariants as change
 use Rattle.pt_frame.specs.Deed.{Deed, Calls, Changes, Step}
 use Rattle.pt_frame.specs.Made.{Made}
 use Rattle.pt_frame.specs.declared.act.ActReply.{ActReply}
@@ -21,8 +23,7 @@ use Rattle.pt_frame.specs.declared.act.ActReply.TheVariants.{Event, Host, NoCopy
 use Rattle.pt_law.specs.Discipline.{AreDisciplined}
 use Rattle.pt_law.specs.Laws.{Starts}
 use Rattle.pt_law.specs.Ledger.{fd_taken, fd_given, fds_carried, summed, weighed, open_count, some_count}
-use Rattle.pt_law.specs.World.{World, Turn, IsLawful, Runs, steps_of}
-use Rattle.pt_law.specs.Handling.{inserting_handle}
+use Rattle.pt_law.specs.World.{made, World, Turn, turn_by, IsLawful, Runs, steps_of}
 use Rattle.pt_law.proofs.Counting.{part}
 use Rattle.pt_law.proofs.Cuts.{runs_append, steps_at, steps_past}
 use Rattle.pt_law.proofs.Flows.{fd_held}
@@ -173,21 +174,22 @@ carried_law limit bound turns (turn ∷ between) more start was now job fd objec
     object g.made is_open o)
 
 -- a handle is inserted for what its descriptor was opened on, which its number stands for
-pub handled_law : (limit bound : ℕ) (turns between more : List Turn) (start was now : World) (job : ℕ) (fd : Fd)
-    (object era handle number : ℕ) (told : ActReply) → Starts limit start →
-    AreDisciplined bound (turns ++ (between ++ inserting_handle job era handle number fd told ∷ more)) →
-    job < bound → Runs start turns was → Runs was between now → 0 < fds_carried fd.0 (steps_of job turns) →
-    summed (fd_given fd.0) (steps_of job between) ≡ 0 → IsOpenOn was.tree fd object →
-    now.past.resolved job number ≡ Some object
-handled_law limit bound turns between more start was now job fd object era handle number told s a lt r k h z o =
-    let t = inserting_handle job era handle number fd told in
+pub handled_law : (limit bound : ℕ) (turns between more : List Turn) (start was now : World) (job object : ℕ)
+    (new : NewHandle) (told : ActReply) → Starts limit start →
+    AreDisciplined bound (turns ++ (between ++ turn_by job (made (Changes (change.InsertHandle new)) told) ∷ more)) →
+    job < bound → Runs start turns was → Runs was between now → 0 < fds_carried new.fd.0 (steps_of job turns) →
+    summed (fd_given new.fd.0) (steps_of job between) ≡ 0 → IsOpenOn was.tree new.fd object →
+    now.past.resolved job new.number ≡ Some object
+handled_law limit bound turns between more start was now job object new told s a lt r k h z o =
+    let fd = new.fd in
+    let t = turn_by job (made (Changes (change.InsertHandle new)) told) in
     let d : AreDisciplined bound ((turns ++ between) ++ t ∷ more) =
     subst (AreDisciplined bound) (sym (append_assoc turns between (t ∷ more))) a in
     let on = runs_append turns between start was now r k in
     let v = reach limit bound (turns ++ between) (t ∷ more) start now s d on in
     let own = v.2 job lt in
     let move = next_move t more (v.0 job) own.1 own.2 in
-    let n = inserted_open now.tree now.tables.next_row now.past job (v.0 job) number fd (v.1.right.knows job lt)
+    let n = inserted_open now.tree now.tables.next_row now.past job (v.0 job) new.number fd (v.1.right.knows job lt)
     move.1.1.2 in
     let carried = carried_law limit bound turns between (t ∷ more) start was now job fd object s a lt r k h z o in
     n.2 ∙ ap Some (one_object now.tree fd n.0 object n.1 carried)

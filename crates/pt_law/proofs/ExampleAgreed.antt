@@ -15,8 +15,7 @@ use Rattle.pt_session.specs.declared.reply.EventReply.TheVariants as event
 use Rattle.pt_frame.specs.Deed.{Changes}
 use Rattle.pt_frame.specs.declared.act.ActReply.TheVariants.{Event}
 use Rattle.pt_law.specs.Agreed.{agreed_after}
-use Rattle.pt_law.specs.Naming.{made}
-use Rattle.pt_law.specs.World.{Turn, turn_by, TablesRun}
+use Rattle.pt_law.specs.World.{made, Turn, turn_by, TablesRun}
 
 -- job 0 decides that the guest keeps what it writes, and job 1 that it tells the group of who asks
 abbrev writes_kept : Negotiated

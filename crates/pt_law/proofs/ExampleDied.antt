@@ -10,7 +10,7 @@ use Rattle.pt_session.specs.declared.row.Row.{Row}
 use Rattle.pt_session.specs.declared.reply.Resolved.{Resolved}
 use Rattle.pt_frame.specs.Deed.{Changes, Deed, Step}
 use Rattle.pt_law.specs.Laws.{HasObject, ObjectOf}
-use Rattle.pt_law.specs.Naming.{resolving}
+use Rattle.pt_law.specs.Reopened.{resolving}
 use Rattle.pt_law.specs.Reopened.{OpensResolved}
 use Rattle.pt_law.specs.World.{World}
 use Rattle.pt_law.proofs.Knowing.{one_object}

@@ -1,64 +1,70 @@
 -- What was there before a name was opened is none that was made by it, and a handle is open on one object alone. What
 -- is new under a free name was made, and a handle of it is open on it.
-use Rattle.std.proofs.Common.{◌≡◌, ℕ, ◌<◌, List, [], ◌∷◌, length, true, refl, sym, subst, arith, Some, None}
-use Rattle.pt_host.specs.Tree.{IsOpenOn}
-use Rattle.pt_host.specs.Words.{Takes, Takes.{here, there}}
+use Rattle.std.proofs.Common.{◌≡◌, ℕ, ◌<◌, List, refl, sym, ◌∙◌, arith, Some, None}
 use Rattle.pt_host.specs.declared.ids.Fd.{Fd}
-use Rattle.pt_session.specs.declared.row.HandleRow.{HandleRow}
-use Rattle.pt_law.specs.Handling.{OpensFor}
-use Rattle.pt_law.specs.Laws.{ObjectOf}
-use Rattle.pt_law.specs.Making.{MadeAt}
-use Rattle.pt_law.specs.Naming.{NamePlaces, NamePath}
-use Rattle.pt_law.specs.World.{World, Turn}
-use Rattle.pt_law.proofs.Knowing.{one_object}
+use Rattle.pt_host.specs.declared.ids.ObjIds.{ObjIds}
+use Rattle.pt_law.specs.Findings.{IsHandled, MadeIn}
+use Rattle.pt_law.specs.Story.{Handling, Opening}
+use Rattle.pt_law.specs.World.{World}
+
+some_same : {a b : ℕ} → Some a ≡ Some b → a ≡ b
+some_same e = cc
+
+none_some : {a : ℕ} → None ≡ Some a → ⊥
+none_some e = cc
 
 -- the object stood in the list before
-pub was_there : {turns : List Turn} {job number : ℕ} {name : List ℕ} {start opened : World}
-    {places : NamePlaces turns job number name} (path : NamePath start places opened) (object : ℕ) →
-    object < length path.at_open.tree.objects → MadeAt path object → ⊥
-was_there path object listed made = let new = made.new in absurd (omega (arith, listed, new))
+pub was_there : (opening : Opening) (parent : ℕ) (name : List ℕ) (object : ℕ) → object < opening.objects →
+    MadeIn opening parent name object → ⊥
+was_there opening parent name object listed made = let new = made.1 in absurd (omega (arith, listed, new))
 
 -- the name was there
-pub was_taken : {turns : List Turn} {job number : ℕ} {name : List ℕ} {start opened : World}
-    {places : NamePlaces turns job number name} (path : NamePath start places opened) (object other : ℕ)
-    (made : MadeAt path object) → path.at_open.tree.names made.directory name ≡ Some other → ⊥
-was_taken path object other made leads = let free = made.free in absurd (cc)
+pub was_taken : (opening : Opening) (parent : ℕ) (name : List ℕ) (object other : ℕ) →
+    opening.led_to ≡ Some other → MadeIn opening parent name object → ⊥
+was_taken opening parent name object other leads made = none_some (sym made.0.had_led ∙ leads)
 
--- the name was free in object 0, for which the number stood, and the new descriptor is open on what is listed last
-pub was_made : {turns : List Turn} {job number : ℕ} {name : List ℕ} {start opened : World}
-    {places : NamePlaces turns job number name} (path : NamePath start places opened) →
-    ObjectOf path.at_resolve number 0 → IsOpenOn path.at_open.tree places.dir 0 →
-    path.at_open.tree.names 0 name ≡ None →
-    IsOpenOn opened.tree places.fd (length path.at_open.tree.objects) →
-    MadeAt path (length path.at_open.tree.objects)
-was_made path stood on free new =
-    record { directory = 0; number_is = stood; dir_open = on; free = free; new = refl; fd_open = new }
+-- the name was free in object 0, for which the number stood, and what is listed last was opened
+pub was_made : (opening : Opening) (parent : ℕ) (ids : ObjIds) (name : List ℕ) →
+    opening.parent ≡ Some (record { number = parent; ids = ids; object = Some 0 }) → opening.directory ≡ Some 0 →
+    opening.name ≡ name → opening.led_to ≡ None → opening.object ≡ Some opening.objects →
+    MadeIn opening parent name opening.objects
+was_made opening parent ids name stood on named free new = (
+  record {
+    ids = ids;
+    directory = 0;
+    resolved = stood;
+    opened_in = on;
+    name_is = named;
+    had_led = free;
+    opened = new;
+  },
+  refl,
+)
 
--- handle 5 of number 2
-abbrev row : Fd → HandleRow
-row fd = record { serial = 7; handle = 5; number = 2; fd = fd; pins = 0; live = true }
+-- handle 5 of number 2, whose descriptor was open on object 1
+abbrev handling : Fd → ℕ → Handling
+handling fd stood = record {
+  handle = 5;
+  number = 2;
+  row = 7;
+  fd = fd;
+  object = Some 1;
+  stood_for = Some stood;
+  giving = None;
+}
 
-alone : {one other : HandleRow} {rest : List HandleRow} → Takes one (other ∷ []) rest → one ≡ other
-alone here = refl
-alone (there t) = elim t [ ]
+-- the number stood for another
+pub opens_another : (world : World) (fd : Fd) → IsHandled world (handling fd 0) → ⊥
+opens_another world fd handled =
+    let on : 1 ≡ handled.object = some_same handled.open_on in
+    let stood : 0 ≡ handled.object = some_same handled.stood_for in
+    absurd (omega (arith, on, stood))
 
--- its descriptor is open on object 1
-pub opens_another : (world : World) (fd : Fd) → world.tables.handles ≡ row fd ∷ [] → IsOpenOn world.tree fd 1 →
-    OpensFor world 5 2 0 → ⊥
-opens_another world fd all on opens =
-    let same : opens.row ≡ row fd =
-    alone (subst (λ (z : List HandleRow). Takes opens.row z opens.is_row.0) all opens.is_row.1) in
-    let its : IsOpenOn world.tree fd 0 =
-    subst (λ (z : HandleRow). IsOpenOn world.tree z.fd 0) same opens.open_on in
-    let no : 0 ≡ 1 = one_object world.tree fd 0 1 its on in
-    absurd (omega (arith, no))
-
-pub opens_it : (world : World) (fd : Fd) → world.tables.handles ≡ row fd ∷ [] → IsOpenOn world.tree fd 1 →
-    world.past.objects 7 ≡ Some 1 → OpensFor world 5 2 1
-opens_it world fd all on settled = record {
-  row = row fd;
-  is_row = ([], subst (λ (z : List HandleRow). Takes (row fd) z []) (sym all) here);
-  is_handle = (refl, refl, refl);
-  is_object = settled;
-  open_on = on;
+pub opens_it : (world : World) (fd : Fd) → world.past.objects 7 ≡ Some 1 → IsHandled world (handling fd 1)
+opens_it world fd settled = record {
+  object = 1;
+  open_on = refl;
+  stood_for = refl;
+  settled = settled;
+  as_given = λ apart giving none. absurd (cc);
 }

@@ -16,11 +16,10 @@ use Rattle.pt_host.specs.Flags.{o_path}
 use Rattle.pt_host.specs.declared.flags.OpenFlags.{OpenFlags}
 use Rattle.pt_frame.specs.declared.act.ActReply.TheVariants.{Event, Host}
 use Rattle.pt_frame.specs.declared.finish.Finish.TheVariants as finish
-use Rattle.pt_law.specs.Naming.{made}
-use Rattle.pt_law.specs.Origins.{opening_root}
 use Rattle.pt_frame.specs.declared.finish.Finish.{Finish}
 use Rattle.pt_law.specs.Ledger.{summed, count_made, count_ended, fd_taken, fd_given}
 use Rattle.pt_law.specs.Settled.{HasSettled, ReturnsGiven, entry_count}
+use Rattle.pt_law.specs.World.{made}
 
 abbrev fd : Fd
 fd = record { 0 = 3 }
@@ -29,7 +28,7 @@ abbrev path : OpenFlags
 path = record { 0 = o_path }
 
 abbrev opening : Step
-opening = opening_root (47 ∷ []) path fd
+opening = made (Calls (call.OpenRoot (47 ∷ []) path)) (Host (host.Ok (value.Fd fd)))
 
 abbrev closing : Step
 closing = made (Calls (call.Close fd)) (Host (host.Ok value.Unit))

@@ -13,8 +13,7 @@ use Rattle.pt_session.specs.declared.reply.GivenNumber.{GivenNumber}
 use Rattle.pt_session.specs.declared.reply.EventReply.TheVariants as event
 use Rattle.pt_frame.specs.Deed.{Changes}
 use Rattle.pt_frame.specs.declared.act.ActReply.TheVariants.{Event}
-use Rattle.pt_law.specs.World.{Turn, turn_by, TablesGo, TablesRun}
-use Rattle.pt_law.specs.Naming.{made}
+use Rattle.pt_law.specs.World.{made, Turn, turn_by, TablesGo, TablesRun}
 use Rattle.pt_law.specs.Laws.{IsOvertaken}
 
 abbrev cleared : Tables

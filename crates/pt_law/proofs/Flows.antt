@@ -14,9 +14,9 @@ use Rattle.pt_frame.specs.declared.hold.Hold.{Hold}
 use Rattle.pt_frame.specs.declared.hold.Hold.TheVariants as hold
 use Rattle.pt_law.specs.Discipline.{Job}
 use Rattle.pt_law.specs.World.{TablesGo}
-use Rattle.pt_law.specs.Ledger.{one_if, form_slot}
+use Rattle.pt_law.specs.Ledger.{form_slot}
 
--- slots, from a job to the tables and back
+-- slots that a job hands to the tables, where giving one back is not refused
 
 abbrev pub slot_in : Deed → ActReply → ℕ
 slot_in (Changes change.GiveFd) told = 1
@@ -24,11 +24,6 @@ slot_in (Changes (change.Insert new)) (Event (event.Inserted given)) = form_slot
 slot_in (Changes (change.InsertRoot new)) (Event (event.Inserted given)) = form_slot new.form
 slot_in (Changes (change.InsertHandle new)) (Event (event.Inserted given)) = 1
 slot_in deed told = 0
-
-abbrev pub slot_out : Deed → ActReply → ℕ
-slot_out (Changes change.TakeFd) (Event event.Taken) = 1
-slot_out (Changes change.TakeClosing) (Event (event.Closing first)) = one_if first.slot
-slot_out deed told = 0
 
 -- what holds weigh
 

@@ -5,7 +5,10 @@ use Rattle.pt_host.specs.Tree.{Tree}
 use Rattle.pt_host.specs.LawfulTree.{OpensFound, OpensMade}
 use Rattle.pt_host.specs.declared.ids.Fd.{Fd}
 use Rattle.pt_host.specs.declared.flags.OpenFlags.{OpenFlags}
-use Rattle.pt_law.specs.Making.{MakesNew}
+
+-- the opening is to make a new object, and to take none that is there
+abbrev pub MakesNew : OpenFlags → Type 0
+MakesNew flags = (includes flags.0 o_creat ≡ true) × (includes flags.0 o_excl ≡ true)
 
 pub found_only : (tree : Tree) (dir : Fd) (name : List ℕ) (flags : OpenFlags) (fd : Fd) (after : Tree) →
     includes flags.0 o_creat ≡ false →

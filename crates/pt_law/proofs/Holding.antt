@@ -30,7 +30,8 @@ use Rattle.pt_law.proofs.Flows.{fd_held}
 use Rattle.pt_law.specs.Ledger.{fd_handed, fd_received, fd_opened, fd_made, fd_closed, fd_ended, pin_made}
 use Rattle.pt_law.specs.Ledger.{pin_ended, handle_pin_made, handle_pin_ended}
 use Rattle.pt_law.proofs.Growing.{IsQuiet, call_grows, opening_does, closing_does}
-use Rattle.pt_law.proofs.Flows.{slot_in, slot_out}
+use Rattle.pt_law.specs.Ledger.{slot_taken}
+use Rattle.pt_law.proofs.Flows.{slot_in}
 use Rattle.pt_law.proofs.Flows.{pin_held, handle_pin_held, slot_held}
 use Rattle.pt_law.proofs.Lists.{total_takes, is_same, is_apart, set_at_same, set_at_other}
 
@@ -39,7 +40,7 @@ pub record Handed (holds : List Hold) (deed : Deed) (told : ActReply) (after : L
   pub fds : (fd : ℕ) →
       total (fd_held fd) after + fd_handed fd deed told + fd_ended fd deed told
       ≡ total (fd_held fd) holds + fd_received fd deed told + fd_made fd deed told
-  pub slots : total slot_held after + slot_in deed told ≡ total slot_held holds + slot_out deed told
+  pub slots : total slot_held after + slot_in deed told ≡ total slot_held holds + slot_taken deed told
   pub pins : (serial : ℕ) →
       total (pin_held serial) after + pin_ended serial deed told
       ≡ total (pin_held serial) holds + pin_made serial deed told
@@ -49,7 +50,7 @@ pub record Handed (holds : List Hold) (deed : Deed) (told : ActReply) (after : L
 
 keeps : (deed : Deed) (told : ActReply) (holds after : List Hold) → after ≡ holds →
     ((fd : ℕ) → fd_handed fd deed told + fd_ended fd deed told ≡ fd_received fd deed told + fd_made fd deed told) →
-    slot_in deed told ≡ slot_out deed told → ((serial : ℕ) → pin_ended serial deed told ≡ pin_made serial deed told) →
+    slot_in deed told ≡ slot_taken deed told → ((serial : ℕ) → pin_ended serial deed told ≡ pin_made serial deed told) →
     ((serial : ℕ) → handle_pin_ended serial deed told ≡ handle_pin_made serial deed told) →
     Handed holds deed told after
 keeps deed told holds after e f s p q = rw e (record {
@@ -61,7 +62,7 @@ keeps deed told holds after e f s p q = rw e (record {
 
 gains : (deed : Deed) (told : ActReply) {one : Hold} {holds after : List Hold} → Takes one after holds →
     ((fd : ℕ) → fd_held fd one + fd_handed fd deed told + fd_ended fd deed told
-    ≡ fd_received fd deed told + fd_made fd deed told) → slot_held one + slot_in deed told ≡ slot_out deed told →
+    ≡ fd_received fd deed told + fd_made fd deed told) → slot_held one + slot_in deed told ≡ slot_taken deed told →
     ((serial : ℕ) → pin_held serial one + pin_ended serial deed told ≡ pin_made serial deed told) →
     ((serial : ℕ) → handle_pin_held serial one + handle_pin_ended serial deed told
     ≡ handle_pin_made serial deed told) → Handed holds deed told after
@@ -75,7 +76,7 @@ gains deed told t f s p q = record {
 loses : (deed : Deed) (told : ActReply) {one : Hold} {holds after : List Hold} → Takes one holds after →
     ((fd : ℕ) → fd_handed fd deed told + fd_ended fd deed told
     ≡ fd_held fd one + fd_received fd deed told + fd_made fd deed told) →
-    slot_in deed told ≡ slot_held one + slot_out deed told →
+    slot_in deed told ≡ slot_held one + slot_taken deed told →
     ((serial : ℕ) → pin_ended serial deed told ≡ pin_held serial one + pin_made serial deed told) →
     ((serial : ℕ) → handle_pin_ended serial deed told
     ≡ handle_pin_held serial one + handle_pin_made serial deed told) → Handed holds deed told after

@@ -13,7 +13,7 @@ use Rattle.pt_frame.specs.Made.{Made}
 use Rattle.pt_frame.specs.declared.act.ActReply.{ActReply}
 use Rattle.pt_frame.specs.declared.act.ActReply.TheVariants.{Event, Host, NoCopy}
 use Rattle.pt_law.specs.Told.{StepMayBeTold, AllMayBeTold}
-use Rattle.pt_law.specs.World.{World, Turn, IsLawful, Runs, HostRuns, TablesRun, steps_of, settled_if}
+use Rattle.pt_law.specs.World.{World, Turn, IsLawful, Runs, HostRuns, TablesRun, steps_of, settled_if, story_by}
 use Rattle.pt_law.proofs.Told.{Promises, made_told, call_told, bytes_told}
 use Rattle.pt_law.proofs.Steps.{turned}
 
@@ -92,10 +92,12 @@ hosts_world does tree faults p l [] start from to t' is r = (start, ap tree r.0 
 hosts_world does tree faults p l (s ∷ ss) start from to t' is r =
     let k = made_lawful does tree faults p l s.step.deed s.step.reply from r.2 start.tables r.0 r.3 r.1 start.tree is
     r.4 in
+    let past = settled_if start.past s.job s.step.deed s.step.reply start.tables.next_row k.0 in
     let next : World = record {
       tree = k.0;
       tables = r.1;
-      past = settled_if start.past s.job s.step.deed s.step.reply start.tables.next_row k.0;
+      past = past;
+      story = story_by start past k.0 s.job s.step.deed s.step.reply;
     } in
     let rest = hosts_world does tree faults p l ss next r.0 to t' k.1 r.5 in
-    (rest.0, rest.1, rest.2, (next, record { seat = r.2; seat_after = r.3; made = k.2; past = refl }, rest.3))
+    (rest.0, rest.1, rest.2, (next, record { seat = r.2; seat_after = r.3; made = k.2; past = refl; story = refl }, rest.3))

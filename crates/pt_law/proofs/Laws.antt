@@ -13,6 +13,7 @@ use Rattle.pt_law.specs.World.{fd_of}
 use Rattle.pt_frame.specs.declared.hold.Hold.{Hold}
 use Rattle.pt_frame.specs.declared.hold.Hold.TheVariants as hold
 use Rattle.pt_law.specs.Discipline.{Job, idle, at_job, JobMoves, Disciplined, entry_holds}
+use Rattle.pt_law.specs.Story.{no_story}
 use Rattle.pt_law.specs.World.{World, Turn, TablesGo, Runs, TablesRun, steps_of, no_past}
 use Rattle.pt_law.specs.Ledger.{closing_slot, slot_taken, slot_given, slots_taken, slots_given, carried, weighed}
 use Rattle.pt_law.specs.Ledger.{closing_has, fds_carried, open_count, given, inserted}
@@ -38,7 +39,7 @@ pub held_nobody : (bound : ℕ) (w : Hold → ℕ) (js : ℕ → Job) → ((j : 
     all_hold bound w js ≡ 0
 held_nobody bound w js e = sum_to_zero (λ j. total w (js j).holds) bound e
 
-empty_agree : (limit : ℕ) → Agree (empty_tables limit)
+pub empty_agree : (limit : ℕ) → Agree (empty_tables limit)
 empty_agree limit =
     record { sound = tt; apart = tt; sound_handles = tt; handles_apart = tt; serials = tt; slots = omega arith }
 
@@ -63,7 +64,7 @@ begins_tabled limit bound =
 
 begins_at : (limit bound : ℕ) (tree : Tree) → IsWellFormed tree →
     Inv bound (λ fd. open_count fd tree) (λ n.
-    0) (record { tree = tree; tables = empty_tables limit; past = no_past }) (λ j. idle)
+    0) (record { tree = tree; tables = empty_tables limit; past = no_past; story = no_story }) (λ j. idle)
 begins_at limit bound tree well = record {
   tabled = begins_tabled limit bound;
   well = well;
@@ -87,8 +88,8 @@ begins_at limit bound tree well = record {
 pub begins : (limit bound : ℕ) (w : World) → Starts limit w →
     Inv bound (λ fd. open_count fd w.tree) (λ n. 0) w (λ j. idle)
 begins limit bound w s =
-    let same : w ≡ record { tree = w.tree; tables = empty_tables limit; past = no_past } =
-    λ i. record { tree = w.tree; tables = s.tables i; past = s.past i } in
+    let same : w ≡ record { tree = w.tree; tables = empty_tables limit; past = no_past; story = no_story } =
+    λ i. record { tree = w.tree; tables = s.tables i; past = s.past i; story = s.story i } in
     subst (λ z. Inv bound (λ fd. open_count fd w.tree) (λ n. 0) z (λ j. idle)) (sym same)
     (begins_at limit bound w.tree s.well_formed)
 
@@ -173,15 +174,14 @@ flows_of j (s ∷ ss) h = go (eqb s.job j) (flows_of j ss h.1)
 
 carries_step : (job after : Job) (step : Step) → HasFlows step.deed step.reply → JobMoves job step after →
     total slot_held after.holds + weighed slot_given step.deed step.reply ≡ total slot_held job.holds
-    + slot_taken step.reply
+    + weighed slot_taken step.deed step.reply
 carries_step job after step f m = go step.deed f m
   where
     go : (deed : Option Deed) → HasFlows deed step.reply → JobMoves job (record step { deed = deed }) after →
         total slot_held after.holds + weighed slot_given deed step.reply ≡ total slot_held job.holds
-        + slot_taken step.reply
-    go None f m = let a = ap (λ (z : Job). total slot_held z.holds) m in omega (arith, a, f)
-    go (Some deed) f m = let a = (handed job.holds deed step.reply after.holds m.0).slots in let b = f.0 in
-        let c = f.1 in omega (arith, a, b, c)
+        + weighed slot_taken deed step.reply
+    go None f m = let a = ap (λ (z : Job). total slot_held z.holds) m in omega (arith, a)
+    go (Some deed) f m = let a = (handed job.holds deed step.reply after.holds m.0).slots in omega (arith, a, f)
 
 carries : (job after : Job) (steps : List Step) → Each (λ (step : Step). HasFlows step.deed step.reply) steps →
     Disciplined job steps after →

@@ -14,10 +14,8 @@ use Rattle.pt_frame.specs.declared.act.ActReply.{ActReply}
 use Rattle.pt_frame.specs.declared.act.ActReply.TheVariants.{Event, Host}
 use Rattle.pt_law.specs.Discipline.{AreDisciplined, Disciplined, idle, Job, MovesIf, newly, Notes, notes_after}
 use Rattle.pt_law.specs.Discipline.{Resolution}
-use Rattle.pt_law.specs.Handling.{ComesToNone}
 use Rattle.pt_law.specs.Laws.{Starts}
-use Rattle.pt_law.specs.Naming.{resolving}
-use Rattle.pt_law.specs.Reopened.{reopening, ReopensResolved}
+use Rattle.pt_law.specs.Reopened.{ComesToNone, reopening, resolving, ReopensResolved}
 use Rattle.pt_law.specs.World.{Runs, steps_of, Turn, World}
 use Rattle.pt_law.proofs.Cuts.{steps_at}
 use Rattle.pt_law.proofs.Interleaving.{disciplined_split, steps_append}
@@ -42,7 +40,7 @@ called_keeps notes (call.Stat fd) (Host (host.Ok (value.Stat stat))) = refl
 called_keeps notes asked told = refl
 
 -- this step resolved it
-abbrev Resolves : Option Deed → ActReply → Resolution → Type 0
+abbrev pub Resolves : Option Deed → ActReply → Resolution → Type 0
 Resolves deed told was =
     (row : Resolved) × (record { deed = deed; reply = told } ≡ resolving was.number row)
 
@@ -65,7 +63,7 @@ changed_by notes (Changes change.DrawNode) (Event (event.Drawn number)) was e = 
 changed_by notes (Changes change.DrawHandle) (Event (event.Drawn handle)) was e = inr (e, tt)
 changed_by notes (Changes asked) told was e = inr (e, tt)
 
-moved_by : (deed : Option Deed) (told : ActReply) (job after : Job) (was : Resolution) →
+pub moved_by : (deed : Option Deed) (told : ActReply) (job after : Job) (was : Resolution) →
     MovesIf job deed told after → after.notes.resolved ≡ Some was →
     Resolves deed told was ⊎ ((job.notes.resolved ≡ Some was) × ComesToNone deed told)
 moved_by None told job after was m e = inr (sym (ap (λ (j : Job). j.notes.resolved) m) ∙ e, tt)

@@ -31,12 +31,13 @@ use Rattle.pt_frame.specs.declared.act.ActReply.{ActReply}
 use Rattle.pt_frame.specs.declared.act.ActReply.TheVariants.{Event, Host, NoCopy}
 use Rattle.pt_frame.specs.declared.hold.Hold.{Hold}
 use Rattle.pt_law.specs.Discipline.{Job, Notes, Resolution, ShiftsCalled, JobMoves, MovesIf, MovesBy, notes_after}
-use Rattle.pt_law.specs.World.{World, Past, Turn, TablesGo, Goes, IsLawful, settled_if, settled_by}
-use Rattle.pt_law.specs.Ledger.{open_count, kept_fds, some_count, slot_taken, slot_given}
+use Rattle.pt_law.specs.Story.{Story}
+use Rattle.pt_law.specs.World.{World, Past, Turn, TablesGo, Goes, IsLawful, settled_if, settled_by, story_by}
+use Rattle.pt_law.specs.Ledger.{open_count, kept_fds, some_count, slot_given}
 use Rattle.pt_law.proofs.Flows.{all_hold, fd_held}
 use Rattle.pt_law.specs.Ledger.{inserted_as, weighed}
 use Rattle.pt_law.specs.Ledger.{fd_ended, fd_closed}
-use Rattle.pt_law.proofs.Flows.{slot_in, slot_out, IsHonest, unmade}
+use Rattle.pt_law.proofs.Flows.{slot_in, IsHonest, unmade}
 use Rattle.pt_law.proofs.Lists.{total_takes, sum_to_set, set_at_same, set_at_other, at_each}
 use Rattle.pt_law.proofs.Balance.{moved}
 use Rattle.pt_law.proofs.Holding.{handed, in_tree}
@@ -95,25 +96,19 @@ keeps_tabled bound had t js j (Some deed) told t' after lt v g m = record {
   numbers = keeps_numbers bound had t js j deed told t' after lt v.agree v.numbers g m;
 }
 
--- the slots that a step moves are told by its reply
+-- no slot that a step gives back is refused
 abbrev pub HasFlows : Option Deed → ActReply → Type 0
-HasFlows None told = slot_taken told ≡ 0
-HasFlows (Some deed) told = (slot_in deed told ≡ slot_given deed told) × (slot_out deed told ≡ slot_taken told)
+HasFlows deed told = weighed slot_in deed told ≡ weighed slot_given deed told
 
 flows_by : (t : Tables) (e : Change) (r : EventReply) (t' : Tables) → Case t e r t' →
     IsHonest (Changes e) (Event r) → HasFlows (Some (Changes e)) (Event r)
-flows_by t change.TakeFd event.Taken t' h a = (refl, refl)
-flows_by t change.GiveFd event.Given t' h a = (refl, refl)
+flows_by t change.GiveFd event.Given t' h a = refl
 flows_by t change.GiveFd (event.Refused why) t' h a = absurd a
-flows_by t (change.Insert new) (event.Inserted given) t' h a = (refl, refl)
-flows_by t (change.InsertRoot new) (event.Inserted given) t' h a = (refl, refl)
-flows_by t (change.InsertHandle new) (event.Inserted given) t' h a = (refl, refl)
-flows_by t change.TakeClosing (event.Closing first) t' h a = (refl, refl)
+flows_by t (change.Insert new) (event.Inserted given) t' h a = refl
+flows_by t (change.InsertRoot new) (event.Inserted given) t' h a = refl
+flows_by t (change.InsertHandle new) (event.Inserted given) t' h a = refl
 flows_by t change.GiveFd _ t' h a = absurd h
-flows_by t _ event.Taken t' h a = absurd h
-flows_by t _ event.Given t' h a = absurd h
-flows_by t _ (event.Closing first) t' h a = absurd h
-flows_by t _ _ t' h a = (refl, refl)
+flows_by t _ _ t' h a = refl
 
 event_flows : (t : Tables) (e : Change) (r : EventReply) (t' : Tables) → Happens t e r t' →
     IsHonest (Changes e) (Event r) → HasFlows (Some (Changes e)) (Event r)
@@ -124,8 +119,8 @@ pub has_flows : (bound : ℕ) (had : ℕ → ℕ) (t : Tables) (js : ℕ →
     Tabled bound had t js → TablesGo t deed told t' → MovesIf (js j) deed told after → HasFlows deed told
 has_flows bound had t js j (Some (Changes e)) (Event r) t' after lt v g m =
     event_flows t e r t' g (honest bound t js j e r t' after lt v.books g m)
-has_flows bound had t js j (Some (Calls a)) (Host r) t' after lt v g m = (refl, refl)
-has_flows bound had t js j (Some (Calls a)) NoCopy t' after lt v g m = (refl, refl)
+has_flows bound had t js j (Some (Calls a)) (Host r) t' after lt v g m = refl
+has_flows bound had t js j (Some (Calls a)) NoCopy t' after lt v g m = refl
 has_flows bound had t js j None NoCopy t' after lt v g m = refl
 has_flows bound had t js j _ _ t' after lt v g m = absurd g
 
@@ -187,7 +182,7 @@ closed_held job a told after m f l = go (sort_of a) (fds_of a) m.0 l
     go sort names s l = absurd (omega (arith, l))
 
 keeps_event : (bound : ℕ) (base had : ℕ → ℕ) (w : World) (js : ℕ →
-    Job) (j : ℕ) (e : Change) (r : EventReply) (t' : Tables) (after : Job) → j < bound → Inv bound base had w js →
+    Job) (j : ℕ) (e : Change) (r : EventReply) (t' : Tables) (story : Story) (after : Job) → j < bound → Inv bound base had w js →
     Happens w.tables e r t' → MovesBy (js j) (Changes e) (Event r) after →
     Inv bound base (λ n. had n
     + inserted_as n (Changes e) (Event r)) (record {
@@ -195,8 +190,9 @@ keeps_event : (bound : ℕ) (base had : ℕ → ℕ) (w : World) (js : ℕ →
       tables = t';
       past =
           settled_by w.past j (Changes e) (Event r) w.tables.next_row w.tree;
+      story = story;
     }) (set_at j after js)
-keeps_event bound base had w js j e r t' after lt v h m =
+keeps_event bound base had w js j e r t' story after lt v h m =
     let a = v.tabled.agree in
     let later = settled_by w.past j (Changes e) (Event r) w.tables.next_row w.tree in
     let case = cases w.tables t' e r h in
@@ -223,7 +219,8 @@ keeps_event bound base had w js j e r t' after lt v h m =
     }
 
 keeps_host : (bound : ℕ) (base had : ℕ → ℕ) (w : World) (js : ℕ →
-    Job) (j : ℕ) (a : Call) (r : HostReply) (seat seat' : HostSeat) (tree' : Tree) (after : Job) → j < bound →
+    Job) (j : ℕ) (a : Call) (r : HostReply) (seat seat' : HostSeat) (tree' : Tree) (story : Story) (after : Job) →
+    j < bound →
     Inv bound base had w js → LawfulStep w.tree seat a r tree' seat' → MovesBy (js j) (Calls a) (Host r) after →
     Inv bound base (λ n. had n
     + inserted_as n (Calls a) (Host r)) (record {
@@ -231,8 +228,9 @@ keeps_host : (bound : ℕ) (base had : ℕ → ℕ) (w : World) (js : ℕ →
       tables = w.tables;
       past =
           settled_by w.past j (Calls a) (Host r) w.tables.next_row tree';
+      story = story;
     }) (set_at j after js)
-keeps_host bound base had w js j a r seat seat' tree' after lt v l m =
+keeps_host bound base had w js j a r seat seat' tree' story after lt v l m =
     let opened = in_tree w.tree a r tree' l.trees.changes (λ f q. let x =
     closed_held (js j) a (Host r) after m f q in let y = v.fds f in let z = part (fd_held f) js bound j lt in
     let u = at_most_one f w.tree in omega (arith, x, y, z, u)) in
@@ -295,12 +293,15 @@ keeps_bytes bound base had w js j a (host.Ok (value.Bytes bytes)) seat seat' nex
       tree = next.tree;
       tables = w.tables;
       past = settled_by w.past j (Calls a) told w.tables.next_row next.tree;
+      story = next.story;
     } = λ i. record {
       tree = next.tree;
       tables = t i;
       past = (p ∙ bytes_settled w.past j a bytes w.tables.next_row next.tree) i;
+      story = next.story;
     } in
-    rw same (keeps_host bound base had w js j a (host.Ok (value.Bytes bytes)) seat seat' next.tree after lt v l
+    rw same (keeps_host bound base had w js j a (host.Ok (value.Bytes bytes)) seat seat' next.tree next.story after lt
+    v l
     (bytes_move (js j) a bytes after m))
 keeps_bytes bound base had w js j a r seat seat' next after faults later lt v h f l t p m = absurd h
 
@@ -308,10 +309,11 @@ keeps_by : (bound : ℕ) (base had : ℕ → ℕ) (w : World) (js : ℕ →
     Job) (j : ℕ) (deed : Option Deed) (told : ActReply) (seat seat' : HostSeat) (next : World) (after : Job) →
     j < bound → Inv bound base had w js →
     Made IsLawful deed told w.tree seat w.tables next.tree seat' next.tables →
-    next.past ≡ settled_if w.past j deed told w.tables.next_row next.tree → MovesIf (js j) deed told after →
+    next.past ≡ settled_if w.past j deed told w.tables.next_row next.tree →
+    next.story ≡ story_by w next.past next.tree j deed told → MovesIf (js j) deed told after →
     Inv bound base (λ n. had n + weighed (inserted_as n) deed told) next (set_at j after js)
-keeps_by bound base had w js j None NoCopy seat seat' next after lt v g p m =
-    let same : next ≡ w = λ i. record { tree = g.0 i; tables = g.2 i; past = p i } in
+keeps_by bound base had w js j None NoCopy seat seat' next after lt v g p y m =
+    let same : next ≡ w = λ i. record { tree = g.0 i; tables = g.2 i; past = p i; story = y i } in
     rw (same, set_self js j after m) (record {
       tabled =
           recount bound had (λ n. had n + 0) w.tables js (λ n. omega arith) v.tabled;
@@ -319,26 +321,28 @@ keeps_by bound base had w js j None NoCopy seat seat' next after lt v g p m =
       fds = v.fds;
       right = v.right;
     })
-keeps_by bound base had w js j (Some (Changes e)) (Event r) seat seat' next after lt v g p m =
+keeps_by bound base had w js j (Some (Changes e)) (Event r) seat seat' next after lt v g p y m =
     let past : next.past ≡ settled_by w.past j (Changes e) (Event r) w.tables.next_row w.tree =
     p ∙ ap (settled_by w.past j (Changes e) (Event r) w.tables.next_row) g.1 in
     let same : next ≡ record {
       tree = w.tree;
       tables = next.tables;
       past = settled_by w.past j (Changes e) (Event r) w.tables.next_row w.tree;
-    } = λ i. record { tree = g.1 i; tables = next.tables; past = past i } in
-    rw same (keeps_event bound base had w js j e r next.tables after lt v g.0 m)
-keeps_by bound base had w js j (Some (Calls a)) (Host r) seat seat' next after lt v g p m =
+      story = next.story;
+    } = λ i. record { tree = g.1 i; tables = next.tables; past = past i; story = next.story } in
+    rw same (keeps_event bound base had w js j e r next.tables next.story after lt v g.0 m)
+keeps_by bound base had w js j (Some (Calls a)) (Host r) seat seat' next after lt v g p y m =
     let same : next ≡ record {
       tree = next.tree;
       tables = w.tables;
       past = settled_by w.past j (Calls a) (Host r) w.tables.next_row next.tree;
-    } = λ i. record { tree = next.tree; tables = g.1 i; past = p i } in
-    rw same (keeps_host bound base had w js j a r seat seat' next.tree after lt v g.0.0 m)
-keeps_by bound base had w js j (Some (Calls a)) NoCopy seat seat' next after lt v g p m =
+      story = next.story;
+    } = λ i. record { tree = next.tree; tables = g.1 i; past = p i; story = next.story } in
+    rw same (keeps_host bound base had w js j a r seat seat' next.tree next.story after lt v g.0.0 m)
+keeps_by bound base had w js j (Some (Calls a)) NoCopy seat seat' next after lt v g p y m =
     let l = g.0.2 in
     keeps_bytes bound base had w js j a g.0.0 seat seat' next after l.1 l.2 lt v g.0.1 l.3.allowed l.0 g.1 p m
-keeps_by bound base had w js j _ _ seat seat' next after lt v g p m = absurd g
+keeps_by bound base had w js j _ _ seat seat' next after lt v g p y m = absurd g
 
 -- Each step keeps what holds.
 pub keeps : (bound : ℕ) (base had : ℕ → ℕ) (w : World) (js : ℕ → Job) (turn : Turn) (next : World) (after : Job) →
@@ -347,4 +351,4 @@ pub keeps : (bound : ℕ) (base had : ℕ → ℕ) (w : World) (js : ℕ → Job
     Inv bound base (λ n. had n + weighed (inserted_as n) turn.step.deed turn.step.reply) next (set_at turn.job after js)
 keeps bound base had w js turn next after lt v g m =
     keeps_by bound base had w js turn.job turn.step.deed turn.step.reply g.seat g.seat_after next after lt v g.made
-    g.past m
+    g.past g.story m

@@ -14,6 +14,7 @@ use Rattle.pt_session.specs.declared.reply.EventReply.TheVariants as event
 use Rattle.pt_frame.specs.Deed.{Deed, Calls, Changes, Step}
 use Rattle.pt_frame.specs.declared.act.ActReply.{ActReply}
 use Rattle.pt_frame.specs.declared.act.ActReply.TheVariants.{Event}
+use Rattle.pt_law.specs.Story.{no_story}
 use Rattle.pt_law.specs.World.{Turn, World, steps_of, no_past, fd_of}
 use Rattle.pt_law.specs.Ledger.{kept_slots, row_slot, handle_has, slots_taken, slots_given, carried, kept_fds}
 use Rattle.pt_law.specs.Ledger.{row_has}
@@ -26,6 +27,7 @@ pub record Starts (limit : ℕ) (world : World) : Type 0 where
   pub tables : world.tables ≡ empty_tables limit
   pub well_formed : IsWellFormed world.tree
   pub past : world.past ≡ no_past
+  pub story : world.story ≡ no_story
 
 -- the number has a live row
 abbrev pub IsLive : Tables → ℕ → Type 0

@@ -56,27 +56,27 @@ abbrev pub kept_slots : Tables → ℕ
 kept_slots tables =
     tables.slots + total row_slot tables.rows + length tables.handles + total closing_slot tables.closing
 
--- what a reply brings a job
-abbrev pub slot_taken : ActReply → ℕ
-slot_taken (Event event.Taken) = 1
-slot_taken (Event (event.Closing first)) = one_if first.slot
-slot_taken _ = 0
+-- what a step brings a job
+abbrev pub slot_taken : Deed → ActReply → ℕ
+slot_taken (Changes change.TakeFd) (Event event.Taken) = 1
+slot_taken (Changes change.TakeClosing) (Event (event.Closing first)) = one_if first.slot
+slot_taken deed told = 0
 
--- what a job gives back or puts into the tables
+-- what it gives back or puts into the tables
 abbrev pub slot_given : Deed → ActReply → ℕ
+slot_given (Changes change.GiveFd) (Event event.Given) = 1
 slot_given (Changes (change.Insert new)) (Event (event.Inserted given)) = form_slot new.form
 slot_given (Changes (change.InsertRoot new)) (Event (event.Inserted given)) = form_slot new.form
 slot_given (Changes (change.InsertHandle new)) (Event (event.Inserted given)) = 1
-slot_given _ (Event event.Given) = 1
-slot_given _ _ = 0
+slot_given deed told = 0
 
 abbrev pub slots_taken : List Step → ℕ
-slots_taken steps = total (λ step. slot_taken step.reply) steps
+slots_taken steps = summed slot_taken steps
 
 abbrev pub slots_given : List Step → ℕ
 slots_given steps = summed slot_given steps
 
--- what a job carries, by its replies alone
+-- what a job carries
 abbrev pub carried : List Step → ℕ
 carried steps = slots_taken steps - slots_given steps
 

@@ -1,10 +1,14 @@
 -- Believed. Runs: the steps of all jobs in the order in which they were made, and where they lead.
-use Rattle.std.specs.Prelude.{◌≡◌, ℕ, ◌==◌, if◌then◌else◌, List, [], ◌∷◌, Option, None, Some}
+use Rattle.std.specs.Prelude.{◌≡◌, ℕ, ◌==◌, if◌then◌else◌, List, [], ◌∷◌, length, Option, None, Some}
+use Rattle.pt_host.specs.Flags.{includes, o_creat}
 use Rattle.pt_host.specs.Words.{set_at}
 use Rattle.pt_host.specs.Tree.{Tree, Opened}
 use Rattle.pt_host.specs.LawfulStep.{LawfulStep}
 use Rattle.pt_host.specs.Promises.{IsPromised}
+use Rattle.pt_host.specs.declared.flags.OpenFlags.{OpenFlags}
 use Rattle.pt_host.specs.declared.ids.Fd.{Fd}
+use Rattle.pt_host.specs.declared.ids.ObjIds.{ObjIds}
+use Rattle.pt_host.specs.declared.stat.Stat.{Stat}
 use Rattle.pt_host.specs.declared.seat.HostSeat.{HostSeat}
 use Rattle.pt_host.specs.declared.op.KeptHostOp.TheVariants as call
 use Rattle.pt_host.specs.declared.reply.HostReply.TheVariants as host
@@ -20,6 +24,11 @@ use Rattle.pt_host.specs.Relation.{HostRelation}
 use Rattle.pt_frame.specs.Made.{Made}
 use Rattle.pt_frame.specs.declared.act.ActReply.{ActReply}
 use Rattle.pt_frame.specs.declared.act.ActReply.TheVariants.{Event, Host, NoCopy}
+use Rattle.pt_law.specs.Story.{Findings, Opening, Sought, Story}
+
+-- a step that was made
+abbrev pub made : Deed → ActReply → Step
+made deed told = record { deed = Some deed; reply = told }
 
 -- a step of a run, and the job that made it
 pub record Turn : Type 0 where
@@ -70,9 +79,9 @@ object_of None = None
 object_of (Some opened) = Some opened.object
 
 -- the first, where there is one
-abbrev pub first_of : Option ℕ → Option ℕ → Option ℕ
+abbrev pub first_of : {A : Type 0} → Option A → Option A → Option A
 first_of None later = later
-first_of (Some object) later = Some object
+first_of (Some one) later = Some one
 
 -- The number is inserted for this object, with this descriptor.
 abbrev pub settled : Past → ℕ → ℕ → Fd → Option ℕ → Past
@@ -116,11 +125,104 @@ abbrev pub settled_if : Past → ℕ → Option Deed → ActReply → ℕ → Tr
 settled_if past job None told row tree = past
 settled_if past job (Some deed) told row tree = settled_by past job deed told row tree
 
--- where a run has come to: the host's tree, the tables, and what is settled
+-- where a run has come to: the host's tree, the tables, what is settled, and what the jobs have found
 pub record World : Type 0 where
   pub tree : Tree
   pub tables : Tables
   pub past : Past
+  pub story : Story
+
+-- the object that the descriptor is open on
+abbrev pub open_at : Tree → Fd → Option ℕ
+open_at tree fd = object_of (tree.opened fd.0)
+
+-- what the name leads to in a directory
+abbrev pub led_by : Tree → Option ℕ → List ℕ → Option ℕ
+led_by tree None name = None
+led_by tree (Some directory) name = tree.names directory name
+
+-- the opening of a name, by the trees before and after
+abbrev pub opening_by : Option Sought → Fd → List ℕ → Fd → Tree → Tree → Opening
+opening_by sought dir name fd tree after = record {
+  parent = sought;
+  directory = open_at tree dir;
+  name = name;
+  led_to = led_by tree (open_at tree dir) name;
+  objects = length tree.objects;
+  object = open_at after fd;
+  fd = fd;
+  stat = None;
+}
+
+-- one that may make its object
+abbrev pub making_by : OpenFlags → Opening → Option Opening → Option Opening
+making_by flags opening making = if includes flags.0 o_creat then Some opening else making
+
+-- this status is told of a descriptor
+abbrev pub stated : Fd → Stat → Option Opening → Option Opening
+stated fd stat None = None
+stated fd stat (Some opening) =
+    if opening.fd.0 == fd.0 then Some (record opening { stat = first_of opening.stat (Some stat) }) else Some opening
+
+-- this number is given
+abbrev pub given_in : Past → ℕ → ℕ → ObjIds → Findings → Findings
+given_in past era number ids found = record found {
+  given = Some (record {
+    era = era;
+    number = number;
+    ids = ids;
+    object = past.numbers number;
+    opening = found.latest;
+  });
+}
+
+-- what a job has found after a step of its own, which led from a world to this past and this tree
+abbrev pub finds : World → Past → Tree → ℕ → Deed → ActReply → Findings → Findings
+finds world past tree job (Changes (change.Resolve number)) (Event (event.Resolved resolved)) found =
+    record found {
+      sought = Some (record { number = number; ids = resolved.ids; object = past.numbers number });
+    }
+finds world past tree job (Calls (call.OpenAt dir name flags mode)) (Host (host.Ok (value.Fd fd))) found =
+    record found {
+      latest = Some (opening_by found.sought dir name fd world.tree tree);
+      making = making_by flags (opening_by found.sought dir name fd world.tree tree) found.making;
+    }
+finds world past tree job (Calls (call.Stat fd)) (Host (host.Ok (value.Stat stat))) found =
+    record found { latest = stated fd stat found.latest }
+finds world past tree job (Changes (change.Claim claim)) (Event (event.Claimed given)) found =
+    given_in past claim.era given.number claim.ids found
+finds world past tree job (Changes (change.Insert new)) (Event (event.Found given)) found =
+    given_in past new.era given.number new.ids found
+finds world past tree job (Changes (change.Insert new)) (Event (event.Inserted given)) found =
+    given_in past new.era given new.ids found
+finds world past tree job (Changes (change.InsertHandle new)) (Event (event.Inserted given)) found =
+    record found {
+      handled = Some (record {
+        handle = new.handle;
+        number = new.number;
+        row = world.tables.next_row;
+        fd = new.fd;
+        object = open_at world.tree new.fd;
+        stood_for = world.past.resolved job new.number;
+        giving = found.given;
+      });
+    }
+finds world past tree job _ _ found = found
+
+-- `Insert` notes how its object was found
+abbrev pub origins_by : Story → ℕ → Deed → ActReply → ℕ → Option Opening
+origins_by story job (Changes (change.Insert new)) (Event (event.Inserted given)) =
+    set_at given (story.found job).latest story.origins
+origins_by story job (Changes (change.InsertRoot new)) (Event (event.Inserted given)) =
+    set_at given None story.origins
+origins_by story job deed told = story.origins
+
+abbrev pub story_by : World → Past → Tree → ℕ → Option Deed → ActReply → Story
+story_by world past tree job None told = world.story
+story_by world past tree job (Some deed) told = record {
+  found = set_at job (finds world past tree job deed told (world.story.found job)) world.story.found;
+  origins = origins_by world.story job deed told;
+}
 
 -- a host that is its tree: it does what is lawful, and what every host promises
 abbrev pub IsLawful : HostRelation Tree
@@ -136,6 +238,7 @@ pub record Goes (world : World) (turn : Turn) (after : World) : Type 0 where
       seat_after after.tables
   pub past : after.past
       ≡ settled_if world.past turn.job turn.step.deed turn.step.reply world.tables.next_row after.tree
+  pub story : after.story ≡ story_by world after.past after.tree turn.job turn.step.deed turn.step.reply
 
 abbrev pub Runs : World → List Turn → World → Type 0
 Runs world [] after = after ≡ world

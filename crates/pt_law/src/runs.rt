@@ -1,25 +1,20 @@
 //! Whatever jobs run, in whatever order their steps come: what holds after every step, and at the end.
 //! The parts that speak of no object hold over any host; those that do, over one that tells its tree.
 
-ghost use Rattle.std.specs.Prelude.{◌⊎◌, ◌≡◌, ◌≢◌, ◌<◌, ◌≤◌, ℕ, List, ◌++◌, ◌∷◌, Option, Some};
-ghost use Rattle.pt_host.specs.Words.{Each};
+ghost use Rattle.std.specs.Prelude.{◌≡◌, ◌≢◌, ◌<◌, ◌≤◌, ℕ, List, ◌++◌, ◌∷◌, Option, Some};
 ghost use Rattle.pt_host.specs.Tree.{IsOpenOn};
-ghost use Rattle.pt_host.specs.declared.flags.OpenFlags.{OpenFlags};
 ghost use Rattle.pt_host.specs.declared.ids.Fd.{Fd};
-ghost use Rattle.pt_host.specs.declared.ids.ObjIds.{ObjIds};
 ghost use Rattle.pt_session.specs.Tables.{Tables, Agree, empty_tables};
 ghost use Rattle.pt_session.specs.declared.form.Negotiated.{Negotiated};
-ghost use Rattle.pt_session.specs.declared.reply.Resolved.{Resolved};
 ghost use Rattle.pt_session.specs.declared.row.Row.{Row};
 ghost use Rattle.pt_session.specs.declared.row.HandleRow.{HandleRow};
+ghost use Rattle.pt_session.specs.declared.event.NewHandle.{NewHandle};
+ghost use Rattle.pt_session.specs.declared.event.KeptEvent.TheVariants as change;
 ghost use Rattle.pt_session.specs.Rows.{IsRow, IsHandleRow};
-ghost use Rattle.pt_frame.specs.Deed.{Step};
+ghost use Rattle.pt_frame.specs.Deed.{Changes};
 ghost use Rattle.pt_frame.specs.declared.act.ActReply.{ActReply};
 ghost use Rattle.pt_law.specs.Told.{AllMayBeTold};
-ghost use Rattle.pt_law.specs.Branch.{AreOwn};
-ghost use Rattle.pt_law.specs.Handling.{inserting_handle};
-ghost use Rattle.pt_law.specs.Naming.{resolving, opening, ResolvesNone, OpensNone};
-ghost use Rattle.pt_law.specs.World.{World, Turn, Runs, HostRuns, TablesGo, TablesRun, steps_of};
+ghost use Rattle.pt_law.specs.World.{made, World, Turn, turn_by, Runs, HostRuns, TablesGo, TablesRun, steps_of};
 ghost use Rattle.pt_law.specs.Ledger.{given, inserted, handle_inserted, standing, summed, fd_given, fds_carried};
 ghost use Rattle.pt_law.specs.Laws.{ObjectOf, Starts, AreDistinct, HasObject};
 ghost use Rattle.pt_law.specs.Discipline.{AreDisciplined, AreEnded};
@@ -27,8 +22,7 @@ ghost use Rattle.pt_law.specs.Laws.{IsOpenAsResolved, IsCounted, IsStanding, Has
 ghost use Rattle.pt_law.specs.Laws.{IsHonoured, IsOvertaken, TellsOvertaken, TellsGiven, BeginsFirst, IsAtRest};
 ghost use Rattle.pt_law.specs.Laws.{LeavesRows};
 ghost use Rattle.pt_law.specs.Agreed.{agreed_after, Decides};
-ghost use Rattle.pt_law.specs.Giving.{GivesBy, GivingPlaces, GivingPath, IsGiven};
-ghost use Rattle.pt_law.specs.Origins.{WasRoot, WasNamed};
+ghost use Rattle.pt_law.specs.Origins.{ComeFromNames};
 ghost use Rattle.pt_law.specs.Reopened.{ReopensResolved};
 
 use pt_host::Host;
@@ -95,27 +89,14 @@ pub fn every_told_run()
         IsHandleRow now.tables row → IsOpenAsResolved now row }
     ensures reopened { (limit bound : ℕ) (turns more : List Turn) (start now : World) → Starts limit start →
         AreDisciplined bound (turns ++ more) → Runs start turns now → ReopensResolved turns now }
-    ensures origins { (limit bound : ℕ) (turns more : List Turn) (start now : World) (number object : ℕ) →
-        Starts limit start → AreDisciplined bound (turns ++ more) → Runs start turns now →
-        ObjectOf now number object → WasRoot start turns now object ⊎ WasNamed start turns now object }
+    ensures origins { (limit bound : ℕ) (turns more : List Turn) (start now : World) →
+        Starts limit start → AreDisciplined bound (turns ++ more) → Runs start turns now → ComeFromNames now }
     ensures descriptors { (limit bound : ℕ) (turns more : List Turn) (start now : World) →
         Starts limit start → AreDisciplined bound (turns ++ more) → Runs start turns now →
         AreKept start bound turns now }
     ensures named { (limit bound : ℕ) (turns : List Turn) (turn : Turn) (more : List Turn) (start now : World) →
         Starts limit start → AreDisciplined bound (turns ++ turn ∷ more) → Runs start turns now →
         NamesOpen now.tree turn.step.deed }
-    ensures placed { (turns : List Turn) (job parent : ℕ) (name : List ℕ) (number : ℕ) (ids : ObjIds)
-        (path first between middle rest : List Step) (row : Resolved) (how : ℕ) (dir fd : Fd) (flags : OpenFlags)
-        (give : Step) → AreOwn path (steps_of job turns) →
-        path ≡ first ++ resolving parent row
-        ∷ (between ++ opening dir name flags how fd ∷ (middle ++ give ∷ rest)) →
-        Each (λ step. ResolvesNone step.deed step.reply) between →
-        Each (λ step. OpensNone step.deed step.reply) middle → GivesBy number ids give.deed give.reply →
-        GivingPlaces turns job parent name number ids }
-    ensures given { (limit bound : ℕ) (turns more : List Turn) (start given : World) (job parent : ℕ) (name : List ℕ)
-        (number : ℕ) (ids : ObjIds) (places : GivingPlaces turns job parent name number ids) →
-        Starts limit start → AreDisciplined bound (turns ++ more) → (path : GivingPath start places given) →
-        IsGiven path }
     ensures rest { (limit bound : ℕ) (turns : List Turn) (start end : World) →
         Starts limit start → AreEnded bound turns → Runs start turns end → LeavesRows start end }
 {}
@@ -129,12 +110,13 @@ pub fn carried_descriptor()
         Runs start turns was → Runs was between now → 0 < fds_carried fd.0 (steps_of job turns) →
         summed (fd_given fd.0) (steps_of job between) ≡ 0 → IsOpenOn was.tree fd object →
         IsOpenOn now.tree fd object }
-    ensures handled { (limit bound : ℕ) (turns between more : List Turn) (start was now : World) (job : ℕ) (fd : Fd)
-        (object era handle number : ℕ) (told : ActReply) → Starts limit start →
-        AreDisciplined bound (turns ++ (between ++ inserting_handle job era handle number fd told ∷ more)) →
-        job < bound → Runs start turns was → Runs was between now → 0 < fds_carried fd.0 (steps_of job turns) →
-        summed (fd_given fd.0) (steps_of job between) ≡ 0 → IsOpenOn was.tree fd object →
-        now.past.resolved job number ≡ Some object }
+    ensures handled { (limit bound : ℕ) (turns between more : List Turn) (start was now : World) (job object : ℕ)
+        (new : NewHandle) (told : ActReply) → Starts limit start →
+        AreDisciplined bound
+        (turns ++ (between ++ turn_by job (made (Changes (change.InsertHandle new)) told) ∷ more)) →
+        job < bound → Runs start turns was → Runs was between now → 0 < fds_carried new.fd.0 (steps_of job turns) →
+        summed (fd_given new.fd.0) (steps_of job between) ≡ 0 → IsOpenOn was.tree new.fd object →
+        now.past.resolved job new.number ≡ Some object }
 {}
 
 /// A run over any host is one of the tables, and where the host tells its tree one of trees and tables; what each job

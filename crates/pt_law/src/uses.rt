@@ -2,7 +2,6 @@
 
 ghost use Rattle.std.specs.Prelude.{◌≡◌, ◌≢◌, ◌⊎◌, ◌<◌, ◌≤◌, ℕ, List, [], ◌∷◌, ◌++◌};
 ghost use Rattle.pt_host.specs.Words.{Each};
-ghost use Rattle.pt_host.specs.declared.ids.ObjIds.{ObjIds};
 ghost use Rattle.pt_session.specs.Tables.{Tables, Agree, HasNumber, empty_tables};
 ghost use Rattle.pt_session.specs.Rows.{NoRow};
 ghost use Rattle.pt_session.specs.Happens.{Happens};
@@ -14,7 +13,7 @@ ghost use Rattle.pt_law.specs.World.{World, Turn, Runs, TablesRun};
 ghost use Rattle.pt_law.specs.Ledger.{inserted};
 ghost use Rattle.pt_law.specs.Laws.{Starts, IsLive, ObjectOf};
 ghost use Rattle.pt_law.specs.Discipline.{AreDisciplined};
-ghost use Rattle.pt_law.specs.Giving.{GivingPlaces, up_to};
+ghost use Rattle.pt_law.specs.Findings.{WasGiven};
 ghost use Rattle.pt_law.specs.Uses.{StaysLive, amount_asked};
 
 /// While a number stays live its object stays, and every other live number that stands for that object is this one.
@@ -33,13 +32,11 @@ pub fn one_number()
 /// Two lookups of one object, in whatever order their steps come, give one number, where the number that was given
 /// first lives until the other is given.
 pub fn two_lookups()
-    ensures { (limit bound : ℕ) (turns more : List Turn) (start first second : World) (job other parent folder : ℕ)
-        (name child : List ℕ) (number another : ℕ) (ids its : ObjIds) (between : List Turn) (object : ℕ)
-        (one : GivingPlaces turns job parent name number ids)
-        (two : GivingPlaces turns other folder child another its) →
-        Starts limit start → AreDisciplined bound (turns ++ more) → up_to two ≡ up_to one ++ between →
-        Runs start (up_to one) first → Runs first between second → StaysLive first between number →
-        ObjectOf first number object → ObjectOf second another object → another ≡ number }
+    ensures { (limit bound : ℕ) (turns between more : List Turn) (start first second : World)
+        (job number another object : ℕ) → Starts limit start → AreDisciplined bound ((turns ++ between) ++ more) →
+        Runs start turns first → Runs first between second → StaysLive first between number →
+        WasGiven (turns ++ between) job another → ObjectOf first number object → ObjectOf second another object →
+        another ≡ number }
 {}
 
 /// A forget of at least the count removes the number, and no row of a handle; the number is not live and not inserted

@@ -2,15 +2,19 @@ use crate::one_directory::{a_host, a_seat};
 use crate::plays::{Told, a_plan, has_text};
 use pt_frame::{Finish, Want};
 use pt_host::{Bytes, Errno, HostSeat};
-use pt_iface::{Context, Request};
+use pt_iface::{Context, Extensions, Request};
 use pt_job::{AnyJob, JobState, SessionAccess, serve};
 use pt_req::Plan;
+use pt_script::{Script, parse};
 use pt_session::Session;
 use std::alloc::Global;
 use std::mem::forget;
 use std::process::Abort;
 
 const WHO: Context = Context { uid: 0, gid: 0 };
+
+/// The calls fail that put back first the user, and then the group, of who made a directory.
+const LOST: &[u8] = b"mount 1 1 / 1\nfault 7 5\nfault 8 6\nend\n";
 
 /// Whether a step is wanted, the act of this text.
 fn is_act(alloc: Global, want: &Want<'_>, wanted: &[u8]) -> bool {
@@ -168,6 +172,43 @@ fn is_served<R: Abort>(rt: &R, alloc: Global) -> Option<bool> {
     Some(is_answer(alloc, end, b" Refused 13"))
 }
 
+/// A job of another user that makes the directory `a`.
+fn a_making(alloc: Global) -> Option<AnyJob> {
+    let who = Context {
+        uid: 1000,
+        gid: 1000,
+    };
+    let request = Request::Mkdir {
+        parent: 1,
+        name: Bytes::from_slice(alloc, b"a").ok()?,
+        mode: 0o755,
+        umask: 0,
+        ext: Extensions {
+            secctx: None,
+            sup_gid: None,
+        },
+    };
+    Some(AnyJob::begin(who, request))
+}
+
+/// A job that is taken whole, and twice fails to put its seat back, tells the first time.
+fn is_lost(alloc: Global) -> Option<bool> {
+    let plan = a_plan(alloc)?;
+    let Ok(Script { mut host, jobs, .. }) = parse(alloc, LOST) else {
+        return None;
+    };
+    forget(jobs);
+    let mut session = Session::new(alloc, 5);
+    let mut seat = a_seat();
+    let root = AnyJob::begin(WHO, Request::Root);
+    forget(serve(&plan, &mut session, &mut host, &mut seat, root));
+    let making = a_making(alloc)?;
+    let end = serve(&plan, &mut session, &mut host, &mut seat, making);
+    let is_first = matches!(&end, Finish::Lost(Errno::EIO));
+    forget(end);
+    Some(is_first)
+}
+
 #[test]
 fn a_job_of_numbers_is_played_or_cut(rt: HostRuntime) {
     assert_eq!(rt; forgets(&rt, rt.alloc()), Some(true), "it forgets");
@@ -186,4 +227,9 @@ fn a_job_is_taken_whole(rt: HostRuntime) {
         Some(true),
         "its call is refused"
     );
+}
+
+#[test]
+fn a_job_that_is_taken_whole_tells_its_first_loss(rt: HostRuntime) {
+    assert_eq!(rt; is_lost(rt.alloc()), Some(true), "it tells another");
 }

@@ -1,12 +1,13 @@
 use crate::one_directory::OneDirectory;
 use pt_fit::{
     all_answered, asked_ends, asked_seated, create_opens, each_request, edit_ends, entry_opens,
-    gone_number, lookup_opens, part_looks_up, places_of_entry,
+    gone_number,
 };
 use pt_fs::{seats_follow, turns_are_determined};
 use pt_law::{
-    any_course, carried_descriptor, every_host, every_run, every_told_run, forgotten_nothing,
-    forgotten_number, one_number, seats_in_runs, steps_seated, steps_told, two_lookups,
+    any_course, carried_descriptor, every_finding, every_host, every_run, every_told_run,
+    forgotten_nothing, forgotten_number, one_number, seats_in_runs, steps_seated, steps_told,
+    two_lookups,
 };
 use pt_run::{report_determines_run, script_determines_report};
 use pt_script::first_bad_line;
@@ -39,11 +40,8 @@ fn the_laws_of_requests_hold() {
 
 #[test]
 fn the_laws_of_lookups_hold() {
-    lookup_opens();
     entry_opens();
     create_opens();
-    part_looks_up();
-    places_of_entry();
     two_lookups();
 }
 
@@ -65,6 +63,7 @@ fn the_laws_of_tables_hold() {
 #[test]
 fn the_laws_of_worlds_hold() {
     every_told_run();
+    every_finding();
     carried_descriptor();
     every_host::<OneDirectory>();
 }

@@ -1,10 +1,12 @@
 -- Inner. One job, on its way to be taken whole.
-use Rattle.std.specs.Prelude.{◌++◌, List, Some}
+use Rattle.std.specs.Prelude.{◌++◌, List, Some, false}
 use Rattle.pt_host.specs.Relation.{HostRelation}
 use Rattle.pt_host.specs.declared.seat.HostSeat.{HostSeat}
 use Rattle.pt_frame.specs.Deed.{Step}
 use Rattle.pt_frame.specs.Grammar.{Grammar, End, Do, May, Belongs}
 use Rattle.pt_frame.specs.Made.{Makes, MadeBy, RunsBy}
+use Rattle.pt_frame.specs.Past.{no_past, past_of}
+use Rattle.pt_frame.specs.Tended.{Tended}
 use Rattle.pt_frame.specs.declared.act.ActReply.{ActReply}
 use Rattle.pt_frame.specs.declared.act.ActReply.TheVariants.{Event, Host, NoCopy}
 use Rattle.pt_frame.specs.declared.finish.Finish.{Finish}
@@ -51,3 +53,5 @@ pub record ServedSoFar
   pub steps : List Step
   pub belongs : (rest : List Step) (end : Finish) → Belongs left rest end → Belongs grammar (steps ++ rest) end
   pub runs : RunsBy does makes steps host seat access host' seat' access'
+  -- and what is left tends the seat as they left it
+  pub tended : Tended seat false grammar no_past → Tended seat false left (past_of steps)

@@ -2,8 +2,14 @@ use Rattle.std.proofs.Common.{subst}
 use Rattle.pt_host.specs.declared.seat.HostSeat.{HostSeat}
 use Rattle.pt_job.specs.Machine.Job.{owes}
 use Rattle.pt_job.specs.Served.{Served}
-use Rattle.pt_job.proofs.TakenWhole.{so_far_more, whole}
+use Rattle.pt_job.proofs.TakenWhole.{so_far_more, so_far_none, whole}
 use Rattle.pt_job.proofs.serving.serve.Goals as goal
+
+pub loop-start-init : goal.loop-start-init
+loop-start-init g c = (
+  so_far_none g.H.Host.does g.A.SessionAccess.makes (owes c.args.plan.now c.copy-start.result c.args.job) _ _ _,
+  c.requires.room,
+)
 
 pub loop-start-preserved : goal.loop-start-preserved
 loop-start-preserved g c = (

@@ -4,8 +4,7 @@ use Rattle.pt_law.proofs.Cuts.{runs_split}
 use Rattle.pt_law.proofs.Laws.{distinct_law, object_law, handles_law, kept_law, leaves_law}
 use Rattle.pt_law.proofs.Hosts.{run_told}
 use Rattle.pt_law.proofs.Next.{named_law}
-use Rattle.pt_law.proofs.Giving.{branch_places, giving_law}
-use Rattle.pt_law.proofs.Tracing.{origins_law}
+use Rattle.pt_law.proofs.Origins.{origins_law}
 use Rattle.pt_law.proofs.Reopened.{reopened_law}
 
 pub returns-clause-tables : goal.returns-clause-tables
@@ -22,14 +21,6 @@ returns-clause-descriptors c = kept_law
 
 pub returns-clause-named : goal.returns-clause-named
 returns-clause-named c = named_law
-
-pub returns-clause-placed : goal.returns-clause-placed
-returns-clause-placed c = branch_places
-
-pub returns-clause-given : goal.returns-clause-given
-returns-clause-given c =
-    λ limit bound turns more start given job parent name number ids places s d path.
-    giving_law limit bound turns more start given places s d path
 
 pub returns-clause-rest : goal.returns-clause-rest
 returns-clause-rest c = leaves_law

@@ -1,5 +1,5 @@
--- Believed. The steps by which a lookup came to its entry.
-use Rattle.std.specs.Prelude.{◌≡◌, ◌⊎◌, ℕ, List, [], ◌∷◌, None}
+-- The steps by which a lookup came to its entry.
+use Rattle.std.proofs.Common.{◌≡◌, ◌⊎◌, ℕ, List, [], ◌∷◌, None}
 use Rattle.pt_host.specs.declared.ids.Fd.{Fd}
 use Rattle.pt_host.specs.declared.stat.Stat.{Stat}
 use Rattle.pt_host.specs.declared.op.KeptHostOp.TheVariants as call
@@ -20,8 +20,8 @@ use Rattle.pt_req.specs.Steps.{claim_of, new_row_of}
 use Rattle.pt_frame.specs.declared.act.ActReply.{ActReply}
 use Rattle.pt_frame.specs.declared.act.ActReply.TheVariants.{Event, Host}
 use Rattle.pt_req.specs.declared.plan.Plan.{Plan}
-use Rattle.pt_law.specs.World.{fd_of}
-use Rattle.pt_law.specs.Naming.{made, resolving}
+use Rattle.pt_law.specs.Reopened.{resolving}
+use Rattle.pt_law.specs.World.{fd_of, made}
 
 -- what is open there is claimed, and inserted
 abbrev pub claiming : ℕ → Stat → Change
