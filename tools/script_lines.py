@@ -107,6 +107,7 @@ REQUESTS: dict[str, list[Callable]] = {
     "open": [u64("INODE"), switched("KILL"), u32("FLAGS")],
     "opendir": [u64("INODE"), u32("FLAGS")],
     "read": [u64("INODE"), u64("HANDLE"), u32("SIZE"), u64("OFFSET")],
+    "readdir": [u64("INODE"), u64("HANDLE"), u32("SIZE"), u64("OFFSET")],
     "release": [u64("INODE"), u64("HANDLE")],
     "releasedir": [u64("INODE"), u64("HANDLE")],
     "write": [
@@ -142,6 +143,10 @@ REQUESTS: dict[str, list[Callable]] = {
     "statfs": [u64("INODE")],
     "getattr": [u64("INODE")],
     "access": [u64("INODE"), u32("MASK")],
+    "setxattr": [u64("INODE"), name("NAME"), name("VALUE"), u32("FLAGS"), u32("EXTRA")],
+    "getxattr": [u64("INODE"), name("NAME"), u32("SIZE")],
+    "listxattr": [u64("INODE"), u32("SIZE")],
+    "removexattr": [u64("INODE"), name("NAME")],
     "other": [u32("OPCODE")],
 }
 
@@ -188,11 +193,18 @@ SETTINGS: dict[str, list[Callable]] = {
     "killpriv_v2": [switched("ON")],
     "clean_noatime": [switched("ON")],
     "allow_mmap": [switched("ON")],
+    "posix_acl": [switched("ON")],
+    "security_label": [switched("ON")],
+    "xattr": [switched("ON")],
 }
 
 # the numbers of each rule of ids behind its word: where its range begins, what that becomes, how many ids it has
 RULES = {kind: ("A", "B", "N") for kind in ("guest", "host", "squash-guest", "squash-host", "map")}
 RULES["forbid-guest"] = ("A", "N")
+
+# the words of a rule of names
+NAME_KINDS = ("prefix", "ok", "bad", "unsupported")
+NAME_SCOPES = ("client", "server", "all")
 
 EDITS: dict[str, list[Callable]] = {
     "unlink": [name("PATH")],
@@ -369,9 +381,9 @@ def fields(form: str, words: list[str], kinds: list[Callable]) -> None:
         kind(word)
 
 
-def option(word: str, value: Callable) -> list[Callable]:
+def option(word: str, *values: Callable) -> list[Callable]:
     """The kinds of an option that begins with this word."""
-    return [sign("+"), value] if word == "+" else [sign("-")]
+    return [sign("+"), *values] if word == "+" else [sign("-")]
 
 
 def request(words: list[str]) -> None:
@@ -385,9 +397,11 @@ def request(words: list[str]) -> None:
         for word in words[4:]:
             number(word, U64, "a number")
     elif words[2] in MAKINGS:
-        kinds = [*MAKINGS[words[2]], sign("-")]
-        group = words[3 + len(kinds) : 4 + len(kinds)]
-        fields(words[2], words[3:], [*kinds, *option("".join(group), u32("GID"))])
+        kinds = [*MAKINGS[words[2]]]
+        for values in [[name("NAME"), name("VALUE")], [u32("GID")]]:
+            first = words[3 + len(kinds) : 4 + len(kinds)]
+            kinds += option("".join(first), *values)
+        fields(words[2], words[3:], kinds)
     elif words[2] == "setattr":
         handle = option("".join(words[4:5]), u64("HANDLE"))
         fields("setattr", words[3:], [u64("INODE"), *handle, *ATTRIBUTES])
@@ -405,6 +419,8 @@ class Reader:
     def __init__(self) -> None:
         self.tree, self.keys = Tree(), set()
         self.rules: dict[str, list[Rule]] = {"uidmap": [], "gidmap": []}
+        # from whom names may come that no rule meets, and the line of the last rule of names, 0 for none
+        self.unmet, self.last_name_rule = {"client", "server"}, 0
         self.lines = 0
         self.at = 0
         self.last_fault = -1
@@ -451,6 +467,9 @@ class Reader:
 
     def setting(self, words: list[str]) -> None:
         key = words[1] if len(words) > 1 else ""
+        if key == "xattrrule":
+            self.name_rule(words[2:])
+            return
         if key in self.rules:
             self.rule(key, words[2:])
             return
@@ -470,6 +489,20 @@ class Reader:
             raise Bad(f"{kind} has {len(names)} numbers, {' '.join(names)}, and here are {len(words) - 1}")
         numbers = [number(word, U32, what) for word, what in zip(words[1:], names)]
         self.rules[key].append(Rule(self.lines, kind, numbers))
+
+    def name_rule(self, words: list[str]) -> None:
+        kind = words[0] if words else ""
+        scope = "all" if kind == "map" else words[1] if len(words) > 1 else ""
+        if kind != "map" and kind not in NAME_KINDS:
+            raise Bad(f"there is no rule {kind!r}: {', '.join(sorted(['map', *NAME_KINDS]))}")
+        if scope not in NAME_SCOPES:
+            raise Bad(f"there is no scope {scope!r}: {', '.join(NAME_SCOPES)}")
+        rest = words[1:] if kind == "map" else words[2:]
+        fields(f"a rule {kind}", rest, [name("KEY"), name("PREPEND")])
+        fronts = {"client": rest[0], "server": rest[1]}
+        met = {side for side, front in fronts.items() if scope in (side, "all") and front == "%-"}
+        self.unmet -= set(fronts) if kind == "map" else met
+        self.last_name_rule = self.lines
 
     def fault(self, words: list[str]) -> None:
         wants(words, 3, "fault CALL ERRNO")
@@ -526,7 +559,8 @@ def complaint(text: bytes) -> tuple[int, str] | None:
 def refused_rule(text: bytes) -> tuple[int, str] | None:
     """The line of a script's first rule that is refused beside the others, and why; None where there is none.
 
-    Such a script is one, but no file system is made of it: the uids' rules are judged first, each key in its order.
+    Such a script is one, but no file system is made of it: the uids' rules are judged first, each key in its order,
+    and last those of names, of which one has to meet each name.
     """
     reader = Reader()
     for line in text.split(b"\n")[:-1]:
@@ -539,6 +573,8 @@ def refused_rule(text: bytes) -> tuple[int, str] | None:
                     return rule.line, f"it says something of an id of which {other} says something"
             if rule.goes_past():
                 return rule.line, f"its ids go past the last one, {U32}"
+    if reader.last_name_rule and reader.unmet:
+        return reader.last_name_rule, f"a name from the {min(reader.unmet)} may meet none of the rules up to here"
     return None
 
 

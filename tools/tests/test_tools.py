@@ -25,7 +25,7 @@ BAD = [
     (TREE + b"# a comment\nend\n", 3, "no line begins"),
     (TREE + b"job 0 0 lookup 1 a \nend\n", 3, "fields"),
     (TREE + b"job 0  0 root\nend\n", 3, "no number"),
-    (TREE + b"job 0 0 readdir 2 0 1 0\nend\n", 3, "no request"),
+    (TREE + b"job 0 0 readdirplus 2 0 1 0\nend\n", 3, "no request"),
     (TREE + b"job 0 0 write 2 0 0 hi 0 2 0\nend\n", 3, "KILL is a switch"),
     (TREE + b"job 0 0 copyfilerange 2 0 0 2 1 0 1\nend\n", 3, "fields"),
     (TREE + b"job 0 0 lookup 1 %61\nend\n", 3, "one spelling"),
@@ -48,6 +48,9 @@ BAD = [
     (b"set uidmap\n" + TREE, 1, "no rule"),
     (b"set uidmap squash_guest 0 1 2\n" + TREE, 1, "squash-guest"),
     (b"set uidmap guest 0 1\n" + TREE, 1, "A B N"),
+    (b"set xattrrule odd all %- %-\n" + TREE, 1, "no rule"),
+    (b"set xattrrule ok some %- %-\n" + TREE, 1, "client, server, all"),
+    (b"set xattrrule map %-\n" + TREE, 1, "2 fields"),
     (b"set gidmap guest 0 1 4294967296\n" + TREE, 1, "N is past"),
     (b"set gidmap forbid-guest 0 1 2\n" + TREE, 1, "2 numbers"),
     (b"set gidmap map 0 0 1\nset gidmap map 0 0 1\nset seat 0 0\n" + TREE, 3, "fields"),
@@ -55,7 +58,9 @@ BAD = [
     (b"set entry_timeout 5\n" + TREE, 1, "fields"),
     (b"set writeback 0\nset writeback 1\n" + TREE, 2, "once"),
     (TREE + b"job 0 0 create 1 f 0o644 0 0o102 0 -\nend\n", 3, "fields"),
-    (TREE + b"job 0 0 create 1 f 0o644 0 0o102 0 + user.x v -\nend\n", 3, "fields"),
+    (TREE + b"job 0 0 create 1 f 0o644 0 0o102 0 + user.x -\nend\n", 3, "fields"),
+    (TREE + b"job 0 0 mkdir 1 d 0o755 0 + user.x v\nend\n", 3, "fields"),
+    (TREE + b"job 0 0 symlink t 1 l * user.x v -\nend\n", 3, "fields"),
     (TREE + b"job 0 0 create 1 f 0o644 0 0o102 0 - 7\nend\n", 3, "wanted here"),
 ]
 
@@ -66,8 +71,11 @@ REFUSED_RULES = [
     (b"set gidmap guest 4294967295 0 2\nset uidmap forbid-guest 4294967295 2\n", 2, "past the last"),
     (b"set gidmap guest 0 4294967295 2\n", 1, "past the last"),
     (b"set gidmap guest 0 0 1\nset uidmap squash-host 4294967295 0 2\n", 2, "past the last"),
+    (b"set xattrrule ok client %- %-\nset xattrrule bad server a b\n", 2, "from the server"),
 ]
 GOOD_RULES = [
+    b"set xattrrule map %- user.\n",
+    b"set xattrrule ok client %- %-\nset xattrrule bad server a %-\n",
     b"set uidmap guest 0 10 5\nset gidmap guest 4 20 1\nset uidmap host 0 10 5\n",
     b"set uidmap guest 0 10 5\nset uidmap guest 4 20 0\nset uidmap guest 5 4294967295 1\n",
     b"set uidmap squash-guest 0 4294967295 9\nset uidmap squash-host 0 4294967295 9\n",

@@ -1,4 +1,3 @@
 pub mod Keeping
-pub mod Labelling
 pub mod Replying
 pub mod Walking

@@ -1,14 +1,14 @@
 -- Believed. The requests on contents, by the handles that they name, beside those of opening and numbering. After
 -- virtiofsd's `write`, `fallocate`, `lseek`, `copyfilerange`, `flush`, `fsync`, `fsyncdir`, `syncfs`, and
 -- pwritev2(2), fallocate(2), lseek(2), copy_file_range(2), close(2), fsync(2), syncfs(2).
-use Rattle.std.specs.Prelude.{ℕ, Bool, ◌&&◌, not, List}
+use Rattle.std.specs.Prelude.{ℕ, Bool, false, ◌&&◌, not, List}
 use Rattle.std.specs.Int.{w64, cast_signed}
 use Rattle.pt_host.specs.Flags.{includes}
 use Rattle.pt_host.specs.declared.op.KeptHostOp.TheVariants as call
 use Rattle.pt_host.specs.declared.seat.HostSeat.{HostSeat}
 use Rattle.pt_iface.specs.declared.answer.Answer.TheVariants as answer
 use Rattle.pt_frame.specs.Tree.{RequestTree, Gives, Bares}
-use Rattle.pt_req.specs.Capability.{drops_fsetid, without_fsetid}
+use Rattle.pt_req.specs.Capability.{capability_cleared, drops_fsetid, without_fsetid}
 use Rattle.pt_req.specs.Options.{o_append, o_nofollow}
 use Rattle.pt_req.specs.Parts.{open_inode, placed}
 use Rattle.pt_req.specs.Steps.{◌>>=◌, ◌>>◌, pin_handle}
@@ -21,12 +21,13 @@ use Rattle.pt_attr.specs.Steps.{count_of, do_call}
 abbrev pub appends : Bool → ℕ → Bool
 appends delayed flags = not delayed && includes flags o_append
 
--- bytes are written, so that set-id bits go where the guest asks that
+-- bytes are written, so that set-id bits go where the guest asks that, and capabilities in any case
 abbrev pub write : Plan → HostSeat → ℕ → ℕ → ℕ → List ℕ → Bool → Bool → ℕ → BegunSession → RequestTree
 write plan seat inode handle offset bytes delayed kill flags session = do
   placed offset
   fd ← pin_handle handle inode
   without_fsetid (drops_fsetid plan seat kill)
+  capability_cleared plan.capability fd false
   count ← count_of (call.WriteAt fd offset bytes (appends delayed flags))
   Bares
   Gives (answer.Wrote count)

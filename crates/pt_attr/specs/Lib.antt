@@ -2,6 +2,7 @@
 pub mod Steps
 pub mod Parts
 pub mod Access
+pub mod Creating
 pub mod Making
 pub mod Setting
 pub mod Contents

@@ -4,6 +4,7 @@ use Rattle.std.specs.Prelude.{ℕ, Bool, true, false, ◌==◌, if◌then◌else
 use Rattle.std.specs.List.{list_any}
 use Rattle.pt_host.specs.Call.{Call}
 use Rattle.pt_host.specs.Errno.{einval}
+use Rattle.pt_host.specs.declared.ids.Errno.{Errno}
 use Rattle.pt_host.specs.declared.ids.Fd.{Fd}
 use Rattle.pt_host.specs.declared.op.KeptHostOp.TheVariants as call
 use Rattle.pt_host.specs.declared.seat.HostSeat.{HostSeat}
@@ -11,16 +12,14 @@ use Rattle.pt_iface.specs.declared.answer.Answer.{Answer}
 use Rattle.pt_iface.specs.declared.answer.Answer.TheVariants as answer
 use Rattle.pt_iface.specs.declared.request.Context.{Context}
 use Rattle.pt_iface.specs.declared.request.Extensions.{Extensions}
-use Rattle.pt_iface.specs.declared.request.SecContext.{SecContext}
 use Rattle.pt_frame.specs.Tree.{RequestTree, Gives, Brackets, Shuts}
-use Rattle.pt_req.specs.Asker.{asker_of, as_asker}
-use Rattle.pt_req.specs.Attributes.{mapped_name}
-use Rattle.pt_req.specs.Creating.{undone}
-use Rattle.pt_req.specs.Parts.{by_path, named, look_up}
-use Rattle.pt_req.specs.Steps.{Part, ◌>>=◌, ◌>>◌, set_xattr, or_refused}
+use Rattle.pt_req.specs.Asker.{asker_of, as_asker, umask_of, under_umask}
+use Rattle.pt_req.specs.Attributes.{Label, host_label}
+use Rattle.pt_req.specs.Parts.{by_path, file_of, named, look_up}
+use Rattle.pt_req.specs.Steps.{Part, ◌>>=◌, ◌>>◌, resolve, set_xattr, or_refused}
 use Rattle.pt_req.specs.declared.begun.BegunSession.{BegunSession}
 use Rattle.pt_req.specs.declared.plan.Plan.{Plan}
-use Rattle.pt_attr.specs.Parts.{file_by}
+use Rattle.pt_attr.specs.Creating.{undone}
 use Rattle.pt_attr.specs.Steps.{make, try_open_at}
 use Rattle.pt_attr.specs.declared.parts.making.ObjectAsked.{ObjectAsked as Borrowed}
 
@@ -29,11 +28,19 @@ pub record ObjectAsked : Type 0 where
   pub who : Context
   pub parent : ℕ
   pub name : List ℕ
+  -- none is minded of a symbolic link
+  pub umask : Option ℕ
   pub ext : Extensions
 
 -- and not where its bytes lie
 abbrev pub asked_of : Borrowed → ObjectAsked
-asked_of asked = record { who = asked.who; parent = asked.parent; name = asked.name.now; ext = asked.ext.now }
+asked_of asked = record {
+  who = asked.who;
+  parent = asked.parent;
+  name = asked.name.now;
+  umask = asked.umask;
+  ext = asked.ext.now;
+}
 
 abbrev pub is_nul : ℕ → Bool
 is_nul byte = byte == 0
@@ -62,24 +69,25 @@ kept_at dir name undoing attribute value next = do
   refused ← set_by_name dir name attribute value
   or_refused (undone undoing) next refused
 
--- its context of security is one
-unfoldable pub label_at : BegunSession → Fd → List ℕ → Call → SecContext → RequestTree → RequestTree
-label_at session dir name undoing label next =
-    mapped_name session.agreed label.name (λ errno. undone undoing (answer.Refused errno)) (λ attribute.
-    kept_at dir name undoing attribute label.value next)
+-- its context of security is one, unless the guest may not use that
+abbrev pub label_at : Fd → List ℕ → Call → List ℕ → Result (List ℕ) Errno → RequestTree → RequestTree
+label_at dir name undoing value (Err errno) next = undone undoing (answer.Refused errno)
+label_at dir name undoing value (Ok attribute) next = kept_at dir name undoing attribute value next
 
 -- it gets the one that the guest brings for it, if it does
-abbrev pub labelled_at : BegunSession → Fd → List ℕ → Call → Option SecContext → RequestTree → RequestTree
-labelled_at session dir name undoing None next = next
-labelled_at session dir name undoing (Some label) next = label_at session dir name undoing label next
+abbrev pub labelled_at : Fd → List ℕ → Call → Option Label → RequestTree → RequestTree
+labelled_at dir name undoing None next = next
+labelled_at dir name undoing (Some label) next = label_at dir name undoing label.value label.name next
 
 -- As whoever asks it is made in a directory by this call, and where its context is refused, it goes by that one. It
 -- gets its context, and its name is looked up.
-unfoldable pub make_object : Plan → HostSeat → BegunSession → ObjectAsked → Fd → Call → Call → RequestTree
-make_object plan seat session asked dir making undoing = do
+unfoldable pub make_object :
+    Plan → HostSeat → BegunSession → ObjectAsked → Option Label → Fd → Call → Call → RequestTree
+make_object plan seat session asked label dir making undoing = do
   as_asker seat (asker_of plan session asked.who asked.ext.sup_gid)
+  under_umask (umask_of session asked.umask)
   make making
-  labelled_at session dir asked.name undoing asked.ext.secctx
+  labelled_at dir asked.name undoing label
   looked ← look_up plan session asked.parent asked.name
   Gives (answer.Entry looked.entry)
 
@@ -87,20 +95,26 @@ make_object plan seat session asked dir making undoing = do
 abbrev pub mkdir : Plan → HostSeat → ObjectAsked → ℕ → BegunSession → RequestTree
 mkdir plan seat asked mode session = do
   named asked.name
-  dir ← file_by asked.parent
-  make_object plan seat session asked dir (call.MakeDir dir asked.name mode) (call.RemoveDir dir asked.name)
+  row ← resolve asked.parent
+  label ← host_label plan session.agreed asked.ext.secctx
+  dir ← file_of row.form
+  make_object plan seat session asked label dir (call.MakeDir dir asked.name mode) (call.RemoveDir dir asked.name)
 
 -- what the mode says, a device perhaps
 abbrev pub mknod : Plan → HostSeat → ObjectAsked → ℕ → ℕ → BegunSession → RequestTree
 mknod plan seat asked mode rdev session = do
   named asked.name
-  dir ← file_by asked.parent
-  make_object plan seat session asked dir (call.MakeNode dir asked.name mode rdev) (call.Unlink dir asked.name)
+  row ← resolve asked.parent
+  label ← host_label plan session.agreed asked.ext.secctx
+  dir ← file_of row.form
+  make_object plan seat session asked label dir (call.MakeNode dir asked.name mode rdev) (call.Unlink dir asked.name)
 
 -- a symbolic link
 abbrev pub symlink : Plan → HostSeat → ObjectAsked → List ℕ → BegunSession → RequestTree
 symlink plan seat asked target session = do
   named asked.name
   targeted target
-  dir ← file_by asked.parent
-  make_object plan seat session asked dir (call.SymLink dir asked.name target) (call.Unlink dir asked.name)
+  row ← resolve asked.parent
+  label ← host_label plan session.agreed asked.ext.secctx
+  dir ← file_of row.form
+  make_object plan seat session asked label dir (call.SymLink dir asked.name target) (call.Unlink dir asked.name)

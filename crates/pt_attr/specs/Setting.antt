@@ -1,6 +1,6 @@
 -- Believed. The request `setattr`: which attributes are set, on which file, and in which order. After virtiofsd's
 -- `setattr`, `struct fuse_setattr_in`, chmod(2), fchownat(2), ftruncate(2), utimensat(2).
-use Rattle.std.specs.Prelude.{ℕ, Bool, true, false, ◌&&◌, ◌||◌, if◌then◌else◌, Option, Some, None}
+use Rattle.std.specs.Prelude.{ℕ, Bool, true, false, ◌&&◌, ◌||◌, if◌then◌else◌, List, Option, Some, None}
 use Rattle.std.specs.Int.{w64, cast_signed}
 use Rattle.pt_host.specs.Call.{Call}
 use Rattle.pt_host.specs.Errno.{einval, eperm}
@@ -16,7 +16,7 @@ use Rattle.pt_iface.specs.declared.answer.Answer.TheVariants as answer
 use Rattle.pt_iface.specs.declared.flags.SetattrValid.{SetattrValid}
 use Rattle.pt_iface.specs.declared.request.SetattrIn.{SetattrIn}
 use Rattle.pt_frame.specs.Tree.{RequestTree, Gives, Bares}
-use Rattle.pt_req.specs.Capability.{drops_fsetid, without_fsetid}
+use Rattle.pt_req.specs.Capability.{capability_cleared, drops_fsetid, without_fsetid}
 use Rattle.pt_req.specs.Entries.{is_bad_offset}
 use Rattle.pt_req.specs.Parts.{file_of, open_row}
 use Rattle.pt_req.specs.Steps.{Part, ◌>>=◌, ◌>>◌, pin_handle, resolve}
@@ -99,35 +99,44 @@ abbrev pub id_set : Bool → Option ℕ → Option ℕ
 id_set true mapped = mapped
 id_set false mapped = Some kept_id
 
-abbrev pub own_as : Fd → Option ℕ → Option ℕ → RequestTree → RequestTree
-own_as file (Some uid) (Some gid) next = do_call (call.ChOwn file uid gid) next
-own_as file uid gid next = Gives (answer.Refused eperm)
+-- with another owner a file has no capabilities
+abbrev pub give_to : Option (List ℕ) → Fd → ℕ → ℕ → RequestTree → RequestTree
+give_to name file uid gid next = do
+  capability_cleared name file true
+  do_call (call.ChOwn file uid gid)
+  next
 
-abbrev pub own_if : Bool → Fd → Option ℕ → Option ℕ → RequestTree → RequestTree
-own_if true file uid gid next = own_as file uid gid next
-own_if false file uid gid next = next
+abbrev pub own_as : Option (List ℕ) → Fd → Option ℕ → Option ℕ → RequestTree → RequestTree
+own_as name file (Some uid) (Some gid) next = give_to name file uid gid next
+own_as name file uid gid next = Gives (answer.Refused eperm)
+
+abbrev pub own_if : Bool → Option (List ℕ) → Fd → Option ℕ → Option ℕ → RequestTree → RequestTree
+own_if true name file uid gid next = own_as name file uid gid next
+own_if false name file uid gid next = next
 
 -- the owner is always the file's, also where a handle is given
 abbrev pub set_owner : Plan → SetattrValid → SetattrIn → Fd → RequestTree → RequestTree
 set_owner plan valid attr file next =
-    own_if (sets_uid valid || sets_gid valid) file (id_set (sets_uid valid) (to_host plan.uid_map attr.uid))
-    (id_set (sets_gid valid) (to_host plan.gid_map attr.gid)) next
+    own_if (sets_uid valid || sets_gid valid) plan.capability file
+    (id_set (sets_uid valid) (to_host plan.uid_map attr.uid)) (id_set (sets_gid valid) (to_host plan.gid_map attr.gid))
+    next
 
--- so that set-id bits go where the guest asks that
-abbrev pub cut_to : Bool → Fd → ℕ → RequestTree → RequestTree
-cut_to drops file size next = do
+-- so that set-id bits go where the guest asks that, and capabilities in any case
+abbrev pub cut_to : Bool → Option (List ℕ) → Fd → ℕ → RequestTree → RequestTree
+cut_to drops name file size next = do
   without_fsetid drops
+  capability_cleared name file false
   do_call (call.Truncate file size)
   Bares
   next
 
-abbrev pub cut_if : Bool → Bool → Fd → ℕ → RequestTree → RequestTree
-cut_if true drops file size next = cut_to drops file size next
-cut_if false drops file size next = next
+abbrev pub cut_if : Bool → Bool → Option (List ℕ) → Fd → ℕ → RequestTree → RequestTree
+cut_if true drops name file size next = cut_to drops name file size next
+cut_if false drops name file size next = next
 
 abbrev pub set_size : Plan → HostSeat → SetattrValid → SetattrIn → Target → RequestTree → RequestTree
 set_size plan seat valid attr target next =
-    cut_if (sets_size valid) (drops_fsetid plan seat (kills_suidgid valid)) target.fd attr.size next
+    cut_if (sets_size valid) (drops_fsetid plan seat (kills_suidgid valid)) plan.capability target.fd attr.size next
 
 -- the time of the call, or the one that is told, whose seconds are signed; or it stays
 abbrev pub time_set : Bool → Bool → ℕ → ℕ → TimeSet

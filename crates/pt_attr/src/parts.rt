@@ -7,9 +7,11 @@ ghost use Rattle.pt_host.specs.declared.ids.Fd.{Fd};
 ghost use Rattle.pt_attr.specs.Parts.{file_by, files_by, tell_attr};
 ghost use Rattle.pt_attr.specs.declared.parts.TwoFiles.{TwoFiles};
 
+mod creating;
 mod making;
 mod setting;
 
+pub use creating::{FileAsked, NamedHandle, make_file, or_refused, undone};
 pub use making::{ObjectAsked, make_object, targeted};
 use pt_frame::{Asked, Heard};
 use pt_host::Fd;

@@ -1,6 +1,6 @@
 -- Whatever a job asks, a request or an edit: it keeps the discipline to its end, whole or cut, and an answer that
 -- refuses or that memory ran out has its cause.
-use Rattle.std.proofs.Common.{◌≡◌, ◌++◌, ◌∷◌, ◌∙◌, ◌||◌, [], ℕ, Bool, List, ap, false, inl, inr, refl, subst, sym}
+use Rattle.std.proofs.Common.{◌≡◌, ◌++◌, ◌∷◌, ◌∙◌, ◌||◌, ◌⊎◌, [], ℕ, Bool, List, ap, false, inl, inr, refl, subst, sym}
 use Rattle.std.proofs.Common.{true}
 use Rattle.pt_host.specs.declared.edit.Edit.{Edit}
 use Rattle.pt_host.specs.declared.reply.HostReply.TheVariants as host
@@ -26,7 +26,8 @@ use Rattle.pt_frame.specs.declared.act.ActReply.TheVariants.{Host}
 use Rattle.pt_frame.specs.declared.finish.Finish.{Finish}
 use Rattle.pt_frame.specs.declared.finish.Finish.TheVariants as finish
 use Rattle.pt_req.specs.declared.plan.Plan.{Plan}
-use Rattle.pt_job.specs.Pattern.{Asked, Edits, Requests, grammar_for, grammar_of, tree_of}
+use Rattle.pt_job.specs.Pattern.{Asked, Edits, Requests, grammar_for, grammar_of, takes_memory, takes_memory_for}
+use Rattle.pt_job.specs.Pattern.{tree_of}
 use Rattle.pt_job.proofs.Answering.{has_cause, requests_spare}
 use Rattle.pt_law.specs.Branch.{TakesNone}
 use Rattle.pt_law.specs.Discipline.{ComesToEnd, blank, idle}
@@ -62,7 +63,7 @@ same_answer last given e = cc
 
 -- an answer has its cause, and is such as may be given
 cause_of : (asked : Asking) (steps : List Step) (last : Answer) → IsCausedLeaf asked steps last →
-    (last ≡ answer.NoMemory → RanOut steps) → IsCaused asked steps last
+    (last ≡ answer.NoMemory → RanOut steps ⊎ (takes_memory asked.request ≡ true)) → IsCaused asked steps last
 cause_of asked steps (answer.Refused errno) c ran = c
 cause_of asked steps answer.NoMemory c ran = ran refl
 cause_of asked steps last c ran = tt
@@ -112,24 +113,26 @@ spares_none lacked (Opens call scope next) s =
 spares_none lacked (Bares rest) s = spares_none lacked rest s
 spares_none lacked (Brackets rest) s = spares_none lacked rest s
 spares_none lacked (Shuts passes rest) s = spares_none lacked rest s
-spares_none lacked (Allocates rest) s = absurd s
+spares_none lacked (Allocates made next) s = absurd s
 
--- where memory ran out at no step, a job that is cut had not given up
+-- Where memory ran out at no step, a job that is cut, and takes no memory of its own, had not given up.
 pub job_full : (plan : Plan) (seat : HostSeat) (asked : Asked) (so_far steps : List Step) (end : Finish) →
-    AllMayBeTold so_far → (RanOut so_far → ⊥) → CutAfter seat (grammar_for plan seat asked) so_far steps end →
+    takes_memory_for asked ≡ false → AllMayBeTold so_far → (RanOut so_far → ⊥) →
+    CutAfter seat (grammar_for plan seat asked) so_far steps end →
     CutInFull seat (grammar_for plan seat asked) so_far steps end
-job_full plan seat (Requests who asked) so_far steps end t n b =
+job_full plan seat (Requests who asked) so_far steps end none t n b =
     cut_in_full seat (tree_of plan seat who asked) so_far steps end
-    (spares_none false (tree_of plan seat who asked) (requests_spare plan seat who asked)) t n b
-job_full plan seat (Edits edit) [] steps end t n b = b
-job_full plan seat (Edits edit) (step ∷ so_far) steps end t n b = absurd b.1
+    (spares_none false (tree_of plan seat who asked) (requests_spare plan seat who asked none)) t n b
+job_full plan seat (Edits edit) [] steps end none t n b = b
+job_full plan seat (Edits edit) (step ∷ so_far) steps end none t n b = absurd b.1
 
--- and whatever is asked, a job gives up only there
-pub job_lasts : (plan : Plan) (seat : HostSeat) (asked : Asked) → Lasting (grammar_for plan seat asked)
-job_lasts plan seat (Requests who asked) =
+-- and it gives up only there
+pub job_lasts : (plan : Plan) (seat : HostSeat) (asked : Asked) → takes_memory_for asked ≡ false →
+    Lasting (grammar_for plan seat asked)
+job_lasts plan seat (Requests who asked) none =
     framed_lasts seat (tree_of plan seat who asked) [] []
-    (spares_none false (tree_of plan seat who asked) (requests_spare plan seat who asked))
-job_lasts plan seat (Edits edit) = λ told t n. tt
+    (spares_none false (tree_of plan seat who asked) (requests_spare plan seat who asked none))
+job_lasts plan seat (Edits edit) none = λ told t n. tt
 
 pub told_front : (front back : List Step) → AllMayBeTold (front ++ back) → AllMayBeTold front × AllMayBeTold back
 told_front [] back t = (tt, t)

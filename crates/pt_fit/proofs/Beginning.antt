@@ -77,7 +77,7 @@ started seat (Opens asked scope next) (step ∷ other ∷ steps) end s b = absur
 started seat (Bares rest) (step ∷ other ∷ steps) end s b = absurd s
 started seat (Brackets rest) (step ∷ other ∷ steps) end s b = absurd s
 started seat (Shuts passes rest) (step ∷ other ∷ steps) end s b = absurd s
-started seat (Allocates rest) (step ∷ other ∷ steps) end s b = absurd s
+started seat (Allocates made next) (step ∷ other ∷ steps) end s b = absurd s
 
 -- nor is it cut any more
 cut_now : (seat : HostSeat) (wants : Bool) (last : Finish) (so_far rest : List Step) (end : Finish) →
@@ -121,7 +121,7 @@ started_cut seat (Opens asked scope next) so_far rest end s c = absurd s
 started_cut seat (Bares rest) so_far more end s c = absurd s
 started_cut seat (Brackets rest) so_far more end s c = absurd s
 started_cut seat (Shuts passes rest) so_far more end s c = absurd s
-started_cut seat (Allocates rest) so_far more end s c = absurd s
+started_cut seat (Allocates made next) so_far more end s c = absurd s
 
 -- each request's tree goes on with the session, or begins it anew
 starts : (plan : Plan) (seat : HostSeat) (who : Context) (asked : Request) → Starts (tree_of plan seat who asked)

@@ -22,7 +22,7 @@ use Rattle.pt_fit.proofs.Calling.{TellsCount, fit_count_of, fit_do_call}
 use Rattle.pt_fit.proofs.Holds.{nothing_bare, over, unscoped_over}
 use Rattle.pt_fit.proofs.Joined.{fit_gives, fit_open_inode}
 use Rattle.pt_fit.proofs.Parts.{FitOn, fit_begin, fit_pin_handle, fit_place}
-use Rattle.pt_fit.proofs.Scopes.{fit_bares, fit_without_fsetid}
+use Rattle.pt_fit.proofs.Scopes.{fit_bares, fit_cleared, fit_without_fsetid}
 use Rattle.pt_req.specs.Steps.{begin}
 
 -- the handle's descriptor is pinned, also under the scope of the capability
@@ -41,11 +41,12 @@ fit_write plan seat who inode handle offset bytes delayed kill flags =
     fit_place offset _ (λ bad. (bad, refl))
     (fit_pin_handle handle inode _ nothing_bare (λ row fd.
     fit_without_fsetid dropped _ (
+    fit_cleared plan.capability fd false _ (pinned dropped row fd) (
     fit_count_of (call.WriteAt fd offset bytes (appends delayed flags)) _ (only fd)
     (record { holds = λ told these. refl; notes = λ told these. refl })
     ((pinned dropped row fd, tt), tt) (λ errno. refl) (λ count.
     fit_bares dropped _ (λ one. refl) (
-    fit_gives (answer.Wrote count) (λ path. (tt, tt, tt))))))))
+    fit_gives (answer.Wrote count) (λ path. (tt, tt, tt)))))))))
   where
     only : (fd : Fd) → TellsCount (call.WriteAt fd offset bytes (appends delayed flags))
     only fd (value.Count count) f = tt

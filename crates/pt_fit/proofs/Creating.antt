@@ -1,6 +1,6 @@
 -- `create` is fit: as whoever asks a file is made, or one that is there is opened.
 use Rattle.std.proofs.Common.{◌≡◌, ◌∷◌, ◌⊎◌, ◌∙◌, ◌&&◌, [], if◌then◌else◌, ℕ, Bool, List, None, Option, Some}
-use Rattle.std.proofs.Common.{ap, false, inl, inr, is_some, not, refl, subst, sym, true}
+use Rattle.std.proofs.Common.{ap, false, inl, inr, is_some, not, refl, true}
 use Rattle.std.proofs.Common.{◌==◌}
 use Rattle.std.proofs.lemmas.Bool.{eqb-true}
 use Rattle.pt_host.specs.Errno.{eperm, estale}
@@ -18,27 +18,25 @@ use Rattle.pt_iface.specs.declared.request.Context.{Context}
 use Rattle.pt_iface.specs.declared.request.Extensions.{Extensions}
 use Rattle.pt_iface.specs.declared.request.Request.{Request}
 use Rattle.pt_iface.specs.declared.request.Request.TheVariants as request
-use Rattle.pt_iface.specs.declared.request.SecContext.{SecContext}
 use Rattle.pt_frame.specs.Deed.{Step}
 use Rattle.pt_frame.specs.Tree.{Gives, RequestTree}
 use Rattle.pt_frame.specs.declared.hold.Hold.{Hold}
 use Rattle.pt_frame.specs.declared.hold.Hold.TheVariants as hold
-use Rattle.pt_session.specs.declared.form.Negotiated.{Negotiated}
 use Rattle.pt_req.specs.Asker.{as_asker, asker_from, asker_of, cap_raised, egid_set, euid_set, group_set}
-use Rattle.pt_req.specs.Attributes.{is_blocked}
-use Rattle.pt_req.specs.Creating.{FileAsked, are_same, if_same, make_file, new_file, old_file, takes_old}
+use Rattle.pt_req.specs.Asker.{umask_of, under_umask}
+use Rattle.pt_req.specs.Attributes.{Label, refused_label}
 use Rattle.pt_req.specs.Options.{create_options, making_flags}
 use Rattle.pt_req.specs.Parts.{by_path}
-use Rattle.pt_req.specs.Requests.{file_asked}
 use Rattle.pt_req.specs.declared.begun.BegunSession.{BegunSession}
-use Rattle.pt_req.specs.declared.parts.asked.NamedHandle.{NamedHandle}
 use Rattle.pt_req.specs.declared.plan.Plan.{Plan}
+use Rattle.pt_attr.specs.declared.parts.creating.NamedHandle.{NamedHandle}
+use Rattle.pt_attr.specs.Creating.{FileAsked, are_same, if_same, make_file, new_file, old_file, takes_old, file_asked}
 use Rattle.pt_job.specs.Pattern.{tree_of}
 use Rattle.pt_law.specs.Discipline.{Notes, blank}
-use Rattle.pt_fit.specs.Cause.{Asking, BlocksLabel, IsBlockedLabel, IsStale, OwnCause, TellsCause, asking}
+use Rattle.pt_fit.specs.Cause.{Asking, IsStale, OwnCause, TellsCause, asking}
 use Rattle.pt_fit.proofs.Holds.{nothing_bare}
 use Rattle.pt_fit.proofs.Joined.{after_any_step, fit_gives, fit_look_up, fit_open_num}
-use Rattle.pt_fit.proofs.Labelling.{fit_labelled}
+use Rattle.pt_fit.proofs.Labelling.{FailsBy, fit_host_label, fit_labelled}
 use Rattle.pt_fit.proofs.Parts.{Agreed, FitOn, Ids, IsSeen, Opened, Seen, Told, blocked_by, fit_begin, fit_name}
 use Rattle.pt_fit.proofs.Parts.{fit_draw_handle, fit_file_of, opens_on}
 use Rattle.pt_fit.proofs.Parts.{fit_insert_given, fit_resolve, fit_stat}
@@ -59,6 +57,9 @@ covers_egid c = record { uncovers = c.uncovers; unscopes = c.unscopes; lays = λ
 
 covers_euid : {holds bare : List Hold} → Covers holds bare → Covers (hold.EffectiveUid ∷ holds) bare
 covers_euid c = record { uncovers = c.uncovers; unscopes = c.unscopes; lays = λ fd. c.lays fd }
+
+covers_umask : {holds bare : List Hold} → Covers holds bare → Covers (hold.Umask ∷ holds) bare
+covers_umask c = record { uncovers = c.uncovers; unscopes = c.unscopes; lays = λ fd. c.lays fd }
 
 -- An identity is taken on by these steps, and what follows is fit under their scopes.
 module _ {asked : Asking} {seen : List Seen} {bare : List Hold} {marks : List ℕ} {notes : Notes}
@@ -100,6 +101,13 @@ module _ {asked : Asking} {seen : List Seen} {bare : List Hold} {marks : List �
   fit_as_asker seat (Some creds) holds c forbids =
       fit_steps creds.sup_gid (id_to_set creds.gid seat.eff_gid) (id_to_set creds.uid seat.eff_uid)
       (creds.keep_capability && is_some (id_to_set creds.uid seat.eff_uid)) holds c
+
+  -- under a umask, if one is to be set
+  pub fit_umask : (umask : Option ℕ) (holds : List Hold) → Covers holds bare →
+      FitOn asked seen (under_umask umask rest) holds marks notes
+  fit_umask None holds c = f holds c
+  fit_umask (Some mask) holds c =
+      fit_open_scope (call.SetUmask mask) hold.Umask rest (λ errno. refl) refl (f (hold.Umask ∷ holds) (covers_umask c))
 
 -- who asks has an id that is forbidden
 pub forbidden_from : (uid gid : Option ℕ) (group : Option (Option ℕ)) (keeps : Bool) →
@@ -151,15 +159,10 @@ module _ (plan : Plan) (who : Context) (parent : ℕ) (name : List ℕ) (mode : 
   asks = asking plan who what
 
   abbrev file : FileAsked
-  file = file_asked who parent name mode kill flags ext
+  file = file_asked who parent name mode kill flags umask ext
 
   abbrev answers : NamedHandle → RequestTree
   answers named = Gives (answer.Created named.entry named.handle (create_options plan.config))
-
-  blocks : (agreed : Negotiated) (brought : SecContext) → ext.secctx ≡ Some brought →
-      is_blocked agreed brought.name ≡ true → BlocksLabel agreed what
-  blocks agreed brought is bad =
-      subst (λ (label : Option SecContext). IsBlockedLabel agreed label) (sym is) bad
 
   -- what was made under the name is not what was found there
   stale : (ids others : ObjIds) (fd found : Fd) (path : List Step) →
@@ -180,19 +183,23 @@ module _ (plan : Plan) (who : Context) (parent : ℕ) (name : List ℕ) (mode : 
   taken true making errno e = absurd (cc)
   taken false making errno e = refl
 
+  -- a context that fails does so by its cause
+  abbrev Fails : BegunSession → Option Label → Type 0
+  Fails session label =
+      (errno : Errno) → FailsBy label errno → refused_label plan session.agreed ext.secctx ≡ Some errno
+
   -- what was made gets its context, is what its name leads to, and gets a handle by its number
-  fit_new : {marks : List ℕ} {notes : Notes} (session : BegunSession) (row : ℕ) (dir fd : Fd) →
-      notes.era ≡ Some session.era → notes.brought ≡ None →
+  fit_new : {marks : List ℕ} {notes : Notes} (session : BegunSession) (label : Option Label) (row : ℕ) (dir fd : Fd) →
+      Fails session label → notes.era ≡ Some session.era → notes.brought ≡ None →
       FitOn asks (Opened name (making_flags flags) mode fd ∷ Agreed session.agreed ∷ [])
-      (new_file plan session file dir fd answers)
+      (new_file plan session file label dir fd answers)
       (hold.Fd fd ∷ hold.Pin row (Some dir) ∷ []) marks notes
   unfolding new_file
-  fit_new session row dir fd e n =
+  fit_new session label row dir fd c e n =
       fit_stat fd _ (λ made.
-      fit_labelled session fd dir name ext.secctx _
+      fit_labelled fd dir name label _
       ((hold.Fd fd, _, here, refl), tt) ((hold.Pin row (Some dir), _, there here, refl), tt)
-      (λ brought is bad path s.
-      blocked_by asks path session.agreed (blocks session.agreed brought is bad) s.each.1.1.0)
+      (λ errno fails path s. blocked_by asks path session.agreed errno (c errno fails) s.each.1.1.0)
       (fit_look_up plan session parent name _ (λ one. refl) e n (λ looked found later l.
       fit_if_same made.ids looked.ids _
       (λ differ path s. (
@@ -217,22 +224,26 @@ module _ (plan : Plan) (who : Context) (parent : ℕ) (name : List ℕ) (mode : 
       (λ one. refl) (l.era ∙ e) (λ handle last.
       fit_gives (answer.Created looked.entry handle (create_options plan.config)) (λ path. (refl, tt, tt))))
 
-  fit_making : {marks : List ℕ} {notes : Notes} (seat : HostSeat) (session : BegunSession) (row : ℕ) (dir : Fd) →
-      notes.era ≡ Some session.era → notes.brought ≡ None →
+  fit_making : {marks : List ℕ} {notes : Notes} (seat : HostSeat) (session : BegunSession) (label : Option Label)
+      (row : ℕ) (dir : Fd) → Fails session label → notes.era ≡ Some session.era → notes.brought ≡ None →
       notes.resolved ≡ Some (record { number = parent; row = row }) →
-      FitOn asks (Agreed session.agreed ∷ []) (make_file plan seat session file dir answers)
+      FitOn asks (Agreed session.agreed ∷ []) (make_file plan seat session file label dir answers)
       (hold.Pin row (Some dir) ∷ []) marks notes
   unfolding make_file
-  fit_making seat session row dir e n r =
+  fit_making seat session label row dir c e n r =
       fit_as_asker _
-      (λ holds c. fit_make_at holds [] dir name (making_flags flags) mode row parent _ _ c r
+      (fit_umask _
+      (λ holds covers. fit_make_at holds [] dir name (making_flags flags) mode row parent _ _ covers r
       (λ errno no. taken _ _ errno no)
-      (λ fd. fit_new session row dir fd e n) (fit_old seat session row dir e n))
+      (λ fd. fit_new session label row dir fd c e n) (fit_old seat session row dir e n))
+      (umask_of session (Some umask)))
       seat (asker_of plan session who ext.sup_gid) _ (covers_none row dir)
       (λ none. inr (forbidden_from _ _ _ _ none, refl))
 
   pub fit_create : (seat : HostSeat) → FitOn asks [] (tree_of plan seat who what) [] [] blank
   fit_create seat = fit_begin _ refl (λ session.
       fit_name name _ (λ bad. inl (bad, refl))
-      (fit_resolve parent _ nothing_bare (λ row. after_any_step (fit_file_of row.row row.form _ (λ dir.
-      fit_making seat session row.row dir refl refl refl)))))
+      (fit_resolve parent _ nothing_bare (λ row. after_any_step (
+      fit_host_label plan session.agreed ext.secctx _ (λ label c.
+      fit_file_of row.row row.form _ (λ dir.
+      fit_making seat session label row.row dir c refl refl refl))))))

@@ -1,5 +1,5 @@
 -- A request that is answered with an entry comes to a lookup of the name that it asks for, whatever it did before.
-use Rattle.std.proofs.Common.{◌≡◌, ℕ, List, [], ◌∷◌, ◌++◌, Some, refl, ap, subst, ◌∙◌}
+use Rattle.std.proofs.Common.{◌≡◌, ℕ, List, [], ◌∷◌, ◌++◌, None, Some, refl, ap, subst, ◌∙◌}
 use Rattle.pt_host.specs.Words.{Each}
 use Rattle.pt_host.specs.declared.ids.Fd.{Fd}
 use Rattle.pt_host.specs.declared.seat.HostSeat.{HostSeat}
@@ -208,13 +208,13 @@ entry_by plan seat who (request.Link inode newparent newname) entry steps m b =
     linked_up plan seat who inode newparent newname entry steps b
 entry_by plan seat who (request.Mkdir parent name mode umask ext) entry steps m b =
     made_up plan seat (Requests who (request.Mkdir parent name mode umask ext))
-    (object_asked who parent name ext) (Directory mode) entry steps refl b
+    (object_asked who parent name (Some umask) ext) (Directory mode) entry steps refl b
 entry_by plan seat who (request.Mknod parent name mode rdev umask ext) entry steps m b =
     made_up plan seat (Requests who (request.Mknod parent name mode rdev umask ext))
-    (object_asked who parent name ext) (Node mode rdev) entry steps refl b
+    (object_asked who parent name (Some umask) ext) (Node mode rdev) entry steps refl b
 entry_by plan seat who (request.Symlink target parent name ext) entry steps m b =
     made_up plan seat (Requests who (request.Symlink target parent name ext))
-    (object_asked who parent name ext) (Link target) entry steps refl b
+    (object_asked who parent name None ext) (Link target) entry steps refl b
 entry_by plan seat who what entry steps m b = absurd m
 
 -- whatever is asked

@@ -19,10 +19,10 @@ use Rattle.pt_iface.specs.declared.request.Extensions.{Extensions}
 use Rattle.pt_iface.specs.declared.request.Request.TheVariants as request
 use Rattle.pt_frame.specs.Deed.{Calls, Changes, Step}
 use Rattle.pt_frame.specs.declared.act.ActReply.TheVariants.{Event, Host}
-use Rattle.pt_req.specs.Creating.{are_same}
 use Rattle.pt_req.specs.Options.{making_flags}
 use Rattle.pt_req.specs.Parts.{by_path}
 use Rattle.pt_req.specs.declared.plan.Plan.{Plan}
+use Rattle.pt_attr.specs.Creating.{are_same}
 use Rattle.pt_fit.specs.Cause.{Asking, HasCause, SomeShows, WasTold, asking}
 use Rattle.pt_law.specs.World.{made}
 

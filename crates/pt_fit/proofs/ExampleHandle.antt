@@ -8,7 +8,7 @@ use Rattle.pt_session.specs.declared.reply.EventReply.TheVariants as event
 use Rattle.pt_iface.specs.declared.answer.Answer.TheVariants as answer
 use Rattle.pt_iface.specs.declared.flags.OpenOptions.{OpenOptions}
 use Rattle.pt_frame.specs.Deed.{Changes, Step}
-use Rattle.pt_frame.specs.Tree.{Allocates, Gives, RequestTree, on, go_on}
+use Rattle.pt_frame.specs.Tree.{Gives, RequestTree, make_bytes, on, go_on}
 use Rattle.pt_frame.specs.declared.act.ActReply.TheVariants.{Event}
 use Rattle.pt_req.specs.Steps.{insert_handle, new_handle_of}
 use Rattle.pt_req.specs.declared.begun.BegunSession.{BegunSession}
@@ -31,7 +31,7 @@ module _ (session : BegunSession) (number : ℕ) (fd : Fd) (options : OpenOption
 
   -- what follows the insertion takes memory
   abbrev late : RequestTree
-  late = insert_handle session 5 number fd (Allocates (Gives (answer.Opened 5 options)))
+  late = insert_handle session 5 number fd (make_bytes [] (λ bytes. Gives (answer.Opened 5 options)))
 
   pub gives_up_late : GivesUpAfter late (inserting ∷ [])
   unfolding on go_on

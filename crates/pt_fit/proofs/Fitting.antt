@@ -63,7 +63,7 @@ fit_keeps asked (Brackets rest) holds marks notes path f =
 fit_keeps asked (Shuts passes rest) holds marks notes path f =
     λ later l. fit_keeps asked rest (under (front passes holds) (down_to (mark_in marks) (behind passes holds)))
     (outer marks) later path (f later l)
-fit_keeps asked (Allocates rest) holds marks notes path f = fit_keeps asked rest holds marks notes path f
+fit_keeps asked (Allocates made next) holds marks notes path f = fit_keeps asked (next made) holds marks notes path f
 
 -- what the one shows or tells, the other shows or tells too
 pub record Within (asked : Asking) (some all : List Step) : Type 0 where
@@ -129,6 +129,12 @@ told_within asked plan who (request.Create parent name mode kill flags umask ext
     ((made, found, opens _ _ _ _ w making, opens _ _ _ _ w finding, differ), e)
 told_within asked plan who (request.Access inode mask) path all errno w ((fd, stat, looked, denied), e) =
     ((fd, stat, w.tells _ _ looked, denied), e)
+told_within asked plan who (request.GetXattr inode name size) path all errno w ((fd, through, named, count, told, long), e) =
+    ((fd, through, named, count, w.tells _ _ told, long), e)
+told_within asked plan who (request.ListXattr inode size) path all errno w ((fd, through, named, count, told, long), e) =
+    ((fd, through, named, count, w.tells _ _ told, long), e)
+told_within asked plan who (request.ReadDir inode handle size offset) path all errno w ((fd, bytes, told, broken), e) =
+    ((fd, bytes, w.tells _ _ told, broken), e)
 told_within asked plan who what path all errno w c = absurd c
 
 caused_within : (asked : Asking) (last : Answer) (path all : List Step) → Within asked path all →
@@ -188,8 +194,8 @@ fit_along asked (Brackets rest) holds marks notes path own all last n f t w v a 
 fit_along asked (Shuts passes rest) holds marks notes path own all last n f t w v a =
     fit_along asked rest (under (front passes holds) (down_to (mark_in marks) (behind passes holds)))
     (outer marks) notes path own all last n (f notes (refl, refl, refl, refl, n)) t w v a
-fit_along asked (Allocates rest) holds marks notes path own all last n f t w v a =
-    fit_along asked rest holds marks notes path own all last n f t w v a
+fit_along asked (Allocates made next) holds marks notes path own all last n f t w v a =
+    fit_along asked (next made) holds marks notes path own all last n f t w v a
 
 shows_among : (asked : Asking) (own all : List Step) (errno : Errno) → AreOwn own all → SomeShows asked own errno →
     SomeShows asked all errno

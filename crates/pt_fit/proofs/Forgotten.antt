@@ -4,7 +4,7 @@ use Rattle.std.proofs.Common.{if◌then◌else◌, append_assoc, arith, Option, 
 use Rattle.std.specs.List.{list_any}
 use Rattle.std.specs.Prelude.{◌&&◌}
 use Rattle.pt_host.specs.Errno.{ebadf, einval}
-use Rattle.pt_host.specs.Flags.{includes, o_directory}
+use Rattle.pt_host.specs.Flags.{includes, o_directory, o_trunc}
 use Rattle.pt_host.specs.declared.ids.Errno.{Errno}
 use Rattle.pt_host.specs.declared.ids.Fd.{Fd}
 use Rattle.pt_host.specs.declared.op.KeptHostOp.TheVariants as call
@@ -42,18 +42,19 @@ use Rattle.pt_frame.specs.declared.finish.Finish.{Finish}
 use Rattle.pt_frame.specs.declared.finish.Finish.TheVariants as finish
 use Rattle.pt_frame.specs.declared.hold.Hold.{Hold}
 use Rattle.pt_frame.specs.declared.hold.Hold.TheVariants as hold
-use Rattle.pt_req.specs.Capability.{drops_fsetid, fsetid, without_fsetid}
+use Rattle.pt_req.specs.Attributes.{host_label}
+use Rattle.pt_req.specs.Capability.{cleared_if, drops_fsetid, fsetid, without_fsetid}
 use Rattle.pt_req.specs.Entries.{is_bad_name}
 use Rattle.pt_req.specs.Options.{with_bits, cleaned, inode_flags, o_nofollow, open_options, create_options}
 use Rattle.pt_req.specs.Parts.{by_path, file_of, handled, named, numbered, looked_of, look_up, open_row}
 use Rattle.pt_job.specs.Pattern.{tree_of}
-use Rattle.pt_req.specs.Creating.{make_file}
-use Rattle.pt_req.specs.Requests.{lookup, open_dir, open_file, file_asked}
+use Rattle.pt_req.specs.Requests.{lookup, open_dir, open_file}
 use Rattle.pt_req.specs.Steps.{session_of, begin, resolve, open_at, stat, began_in, ok_in, resolved_in}
 use Rattle.pt_session.specs.declared.reply.Resolved.{Resolved}
 use Rattle.pt_req.specs.declared.begun.BegunSession.{BegunSession}
 use Rattle.pt_req.specs.declared.plan.Plan.{Plan}
 use Rattle.pt_job.specs.Pattern.{grammar_of}
+use Rattle.pt_attr.specs.Creating.{make_file, file_asked}
 use Rattle.pt_attr.specs.Contents.{syncfs}
 use Rattle.pt_attr.specs.Making.{ObjectAsked, is_nul, targeted}
 use Rattle.pt_attr.specs.Setting.{file_set, is_missized, set_mode, set_owner, set_size, set_times, setattr, sized}
@@ -191,8 +192,8 @@ on_open : (plan : Plan) (seat : HostSeat) (inode : ℕ) (kill : Bool) (flags : �
 on_open plan seat inode kill flags = (
   true,
   (λ session row. open_row row (inode_flags plan.config session.agreed (cleaned plan.config flags)) (λ fd.
-      Bares (handled session inode fd (λ handle.
-      Shuts false (Gives (answer.Opened handle (open_options plan.config flags))))))),
+      Bares (cleared_if (includes flags o_trunc) plan.capability fd (handled session inode fd (λ handle.
+      Shuts false (Gives (answer.Opened handle (open_options plan.config flags)))))))),
   refl,
 )
 
@@ -200,10 +201,11 @@ on_create : (plan : Plan) (seat : HostSeat) (who : Context) (parent : ℕ) (name
     (flags umask : ℕ) (ext : Extensions) → is_bad_name name ≡ false →
     Resolves parent false (tree_of plan seat who (request.Create parent name mode kill flags umask ext))
 on_create plan seat who parent name mode kill flags umask ext good =
-    let asked = file_asked who parent name mode kill flags ext in
-    let next : BegunSession → Resolved → RequestTree = λ session directory. file_of directory.form (λ dir.
-    make_file plan seat session asked dir (λ both.
-    Gives (answer.Created both.entry both.handle (create_options plan.config)))) in (
+    let asked = file_asked who parent name mode kill flags umask ext in
+    let next : BegunSession → Resolved → RequestTree = λ session directory.
+    host_label plan session.agreed ext.secctx (λ label. file_of directory.form (λ dir.
+    make_file plan seat session asked label dir (λ both.
+    Gives (answer.Created both.entry both.handle (create_options plan.config))))) in (
       false,
       next,
       (λ i. begin (λ session. good_named name (resolve parent (next session)) good i)),
@@ -225,7 +227,8 @@ on_made : (plan : Plan) (seat : HostSeat) (object : ObjectAsked) (its : Kind) �
     is_bad_target its ≡ false → Resolves object.parent false (begin (make_named plan seat object its))
 on_made plan seat object its good well =
     let next : BegunSession → Resolved → RequestTree = λ session directory.
-    file_of directory.form (make_kind plan seat session object its) in (
+    host_label plan session.agreed object.ext.secctx (λ label.
+    file_of directory.form (make_kind plan seat session object its label)) in (
       false,
       next,
       (λ i. begin (λ session.
@@ -313,15 +316,15 @@ resolves plan seat who (request.Create parent name mode kill flags umask ext) nu
     subst (λ n. Resolves n false (tree_of plan seat who (request.Create parent name mode kill flags umask ext))) it.0
     (on_create plan seat who parent name mode kill flags umask ext it.1)
 resolves plan seat who (request.Mkdir parent name mode umask ext) number it =
-    let object = object_asked who parent name ext in
+    let object = object_asked who parent name (Some umask) ext in
     subst (λ n. Resolves n false (begin (make_named plan seat object (Directory mode)))) it.0
     (on_made plan seat object (Directory mode) it.1 refl)
 resolves plan seat who (request.Mknod parent name mode rdev umask ext) number it =
-    let object = object_asked who parent name ext in
+    let object = object_asked who parent name (Some umask) ext in
     subst (λ n. Resolves n false (begin (make_named plan seat object (Node mode rdev)))) it.0
     (on_made plan seat object (Node mode rdev) it.1 refl)
 resolves plan seat who (request.Symlink target parent name ext) number it =
-    let object = object_asked who parent name ext in
+    let object = object_asked who parent name None ext in
     subst (λ n. Resolves n false (begin (make_named plan seat object (Link target)))) it.0
     (on_made plan seat object (Link target) it.1 it.2)
 resolves plan seat who (request.Readlink inode) number it =

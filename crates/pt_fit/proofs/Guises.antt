@@ -8,7 +8,7 @@ use Rattle.std.specs.Int.RustNames.{bit_or}
 use Rattle.pt_host.specs.Call.{Call}
 use Rattle.pt_host.specs.Flags.{includes, cap_setgid}
 use Rattle.pt_host.specs.Seat.{leaves_id, caps_as, with_euid, with_egid, may_set_groups}
-use Rattle.pt_host.specs.Seat.{with_groups, with_raised, may_raise}
+use Rattle.pt_host.specs.Seat.{with_groups, with_raised, with_umask, may_raise}
 use Rattle.pt_host.specs.declared.flags.Caps.{Caps}
 use Rattle.pt_host.specs.declared.op.KeptHostOp.TheVariants as call
 use Rattle.pt_host.specs.declared.reply.HostReply.TheVariants as host
@@ -28,20 +28,25 @@ use Rattle.pt_frame.specs.declared.act.ActReply.TheVariants.{Event, Host, NoCopy
 use Rattle.pt_frame.specs.declared.hold.Hold.{Hold}
 use Rattle.pt_frame.specs.declared.hold.Hold.TheVariants as hold
 use Rattle.pt_law.specs.Told.{MayBeTold}
-use Rattle.pt_law.specs.Under.{Identity, identity_of, Role, makes_object, IsMadeAs, SeatAnswers}
+use Rattle.pt_law.specs.Under.{Identity, identity_of, Role, makes_object, SeatAnswers}
 use Rattle.pt_law.specs.Wearing.{Unwinds, Seats}
 use Rattle.pt_law.proofs.Wearing.{deed_leaves}
 use Rattle.pt_host.specs.Sorts.{sort_of}
-use Rattle.pt_req.specs.Asker.{cap_raised, egid_set, euid_set, group_set, taken_on}
+use Rattle.pt_req.specs.Asker.{cap_raised, egid_set, euid_set, group_set, taken_on, under_umask}
 use Rattle.pt_req.specs.Steps.{open_scope, ok_in, tried_in}
 
+-- the umask that is set, else the one that there is
+abbrev pub masked : Option ℕ → ℕ → ℕ
+masked None own = own
+masked (Some umask) own = umask
+
 -- as whom a call is made under these credentials
-abbrev pub identity_under : Credentials → HostSeat → Identity
-identity_under creds seat = record {
+abbrev pub identity_under : Credentials → Option ℕ → HostSeat → Identity
+identity_under creds umask seat = record {
   uid = id_under seat.real_uid creds.uid seat.eff_uid;
   gid = id_under seat.real_gid creds.gid seat.eff_gid;
   groups = groups_under creds.sup_gid seat.groups;
-  umask = seat.umask;
+  umask = masked umask seat.umask;
 }
 
 -- uids
@@ -428,18 +433,29 @@ module _
             (first_true (includes seat.eff_caps.0 cap_setgid) (nat_le (length {A = ℕ} (group ∷ [])) 32) may)
             (few (length seat.groups) fits)
 
--- a making under the identity that was taken on, after which it is put back
-pub guised : (role : Role) (seat : HostSeat) (creds : Credentials) (making : Call)
+-- an identity but for its umask, which is the seat's
+abbrev with_mask : Identity → ℕ → Identity
+with_mask who umask = record { uid = who.uid; gid = who.gid; groups = who.groups; umask = umask }
+
+-- A making under the identity that was taken on and the umask that was set, after which all is put back.
+pub guised : (role : Role) (seat : HostSeat) (creds : Credentials) (umask : Option ℕ) (making : Call)
     (next : ActReply → RequestTree) → IsWhole seat → KeepsGroups seat → is_of_seat (Calls making) ≡ false →
-    makes_object making ≡ true → role.asker ≡ Some (identity_under creds seat) →
+    makes_object making ≡ true → role.asker ≡ Some (identity_under creds umask seat) →
     ((told : ActReply) → Seats role seat (next told) [] seat) →
     Seats role seat (taken_on (cred_steps creds seat)
-    (Asks (Calls making) (λ told. Bares (next told)))) [] seat
-guised role seat creds making next whole fits own makes is so =
-    on_groups role seat whole (Asks (Calls making) (λ told. Bares (next told)))
-    (identity_under creds seat) (λ scopes now un same. (
+    (under_umask umask (Asks (Calls making) (λ told. Bares (next told))))) [] seat
+guised role seat creds umask making next whole fits own makes is so =
+    on_groups role seat whole (under_umask umask make) (identity_under creds None seat) (masks umask is)
+    creds.uid creds.gid creds.sup_gid creds.keep_capability fits refl refl refl refl
+  where
+    make : RequestTree
+    make = Asks (Calls making) (λ told. Bares (next told))
+
+    makes_it : (umask : Option ℕ) → role.asker ≡ Some (identity_under creds umask seat) →
+        SeatsGuised role seat make (identity_under creds umask seat)
+    makes_it umask is scopes now un same = (
       un,
-      made now same,
+      rw own (rw makes (is ∙ ap Some (sym same))),
       (λ told m a. (
         inr refl,
         (
@@ -447,8 +463,17 @@ guised role seat creds making next whole fits own makes is so =
           so told,
         ),
       )),
-    )) creds.uid creds.gid creds.sup_gid creds.keep_capability fits refl refl refl refl
-  where
-    made : (now : HostSeat) → identity_of now ≡ identity_under creds seat →
-        IsMadeAs role seat now (Some (Calls making))
-    made now same = rw own (rw makes (is ∙ ap Some (sym same)))
+    )
+
+    -- a umask that was set is put back as it was
+    masks : (umask : Option ℕ) → role.asker ≡ Some (identity_under creds umask seat) →
+        SeatsGuised role seat (under_umask umask make) (identity_under creds None seat)
+    masks None is scopes now un same = makes_it None is scopes now un same
+    masks (Some mask) is scopes now un same =
+        opens_so role seat now scopes (call.SetUmask mask) hold.Umask make refl un (λ got a.
+        makes_it (Some mask) is (hold.Umask ∷ scopes) (with_umask now mask)
+        (refl, refl, subst (λ (z : HostSeat). Unwinds seat scopes z) (sym back) un)
+        (ap (λ (who : Identity). with_mask who mask) same))
+      where
+        back : with_umask (with_umask now mask) seat.umask ≡ now
+        back = ap (λ own. with_umask now own) (sym (ap (λ (who : Identity). who.umask) same))

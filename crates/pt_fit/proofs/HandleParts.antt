@@ -7,6 +7,7 @@ use Rattle.pt_host.specs.Words.{is}
 use Rattle.pt_host.specs.declared.ids.Errno.{Errno}
 use Rattle.pt_host.specs.declared.ids.Fd.{Fd}
 use Rattle.pt_host.specs.declared.op.KeptHostOp.TheVariants as call
+use Rattle.pt_host.specs.Flags.{includes, o_trunc}
 use Rattle.pt_host.specs.declared.reply.HostReply.TheVariants as host
 use Rattle.pt_host.specs.declared.seat.HostSeat.{HostSeat}
 use Rattle.pt_host.specs.declared.stat.Stat.{Stat}
@@ -28,7 +29,7 @@ use Rattle.pt_frame.specs.declared.act.ActReply.{ActReply}
 use Rattle.pt_frame.specs.declared.act.ActReply.TheVariants.{Event, Host, NoCopy}
 use Rattle.pt_frame.specs.declared.hold.Hold.{Hold}
 use Rattle.pt_frame.specs.declared.hold.Hold.TheVariants as hold
-use Rattle.pt_req.specs.Capability.{drops_fsetid, fsetid, without_fsetid}
+use Rattle.pt_req.specs.Capability.{capability_cleared, cleared_if, drops_fsetid, fsetid, without_fsetid}
 use Rattle.pt_req.specs.Entries.{can_open, is_bad_name, is_bad_offset}
 use Rattle.pt_req.specs.Options.{cleaned, inode_flags}
 use Rattle.pt_req.specs.Options.{without_nofollow}
@@ -37,13 +38,13 @@ use Rattle.pt_req.specs.Parts.{open_inode, open_num, open_row, placed, root_open
 use Rattle.pt_req.specs.Steps.{begin, clear, draw_handle, draw_node, insert, insert_handle, resolve, session_of, stat}
 use Rattle.pt_req.specs.Steps.{claimed_in, claim_of, new_row_of, new_root_of, new_handle_of}
 use Rattle.pt_req.specs.Steps.{take_fd, began_in, cleared_in, done_in, drawn_in, fd_in, inserted_in, numbered_in}
-use Rattle.pt_req.specs.Steps.{ok_in, resolved_in, stat_in, taken_in}
+use Rattle.pt_req.specs.Steps.{gone_in, ok_in, resolved_in, stat_in, taken_in}
 use Rattle.pt_session.specs.declared.reply.Resolved.{Resolved}
 use Rattle.pt_req.specs.declared.begun.BegunSession.{BegunSession}
 use Rattle.pt_req.specs.declared.parts.looked.Looked.{Looked}
 use Rattle.pt_req.specs.declared.plan.Plan.{Plan}
 use Rattle.pt_req.proofs.Replying.{if_began, if_claimed, if_cleared, if_done, if_drawn, if_fd, if_numbered}
-use Rattle.pt_req.proofs.Replying.{if_resolved, if_inserted, if_set, if_stat, if_taken}
+use Rattle.pt_req.proofs.Replying.{if_gone, if_resolved, if_inserted, if_set, if_stat, if_taken}
 use Rattle.pt_attr.specs.Parts.{file_by, files_by, two_files}
 use Rattle.pt_attr.specs.Requests.{allowed}
 use Rattle.pt_attr.specs.declared.parts.TwoFiles.{TwoFiles}
@@ -371,6 +372,19 @@ pub without : (dropped : Bool) (next : RequestTree) → Yields next → Yields (
 without true next so = sets_on (call.DropCap fsetid) (hold.Dropped fsetid) next so
 without false next so = so
 
+-- and what keeps it where a file loses its capabilities
+pub clears_capability : (name : Option (List ℕ)) (fd : Fd) (through : Bool) (next : RequestTree) → Yields next →
+    Yields (capability_cleared name fd through next)
+clears_capability None fd through next so = so
+clears_capability (Some name) fd through next so =
+    asks (Calls (call.RemoveXattr fd through name)) (on gone_in (λ done. next)) (λ h told. refl)
+    (if_gone P next refuses (λ told. so))
+
+clears_if : (emptied : Bool) (name : Option (List ℕ)) (fd : Fd) (next : RequestTree) → Yields next →
+    Yields (cleared_if emptied name fd next)
+clears_if false name fd next so = so
+clears_if true name fd next so = clears_capability name fd false next so
+
 pub opens_row : (row : Resolved) (flags : ℕ) (next : Fd → RequestTree) → ((fd : Fd) → Yields (next fd)) →
     Yields (open_row row flags next)
 unfolding open_row
@@ -391,8 +405,9 @@ opens_num plan seat session number kill flags next so =
     without (drops_fsetid plan seat kill) _ (
     opens_inode plan session number (cleaned plan.config flags) _ (λ fd.
     bares _ (
+    clears_if (includes flags o_trunc) plan.capability fd _ (
     gets_handle session number fd (λ handle. Shuts false (next handle)) (λ handle.
-    hands_shut handle false (next handle) (so handle))))))
+    hands_shut handle false (next handle) (so handle)))))))
 
 pub opens_shared : (plan : Plan) (session : BegunSession) (agreed : Option Negotiated) (next : RequestTree) →
     Yields next →

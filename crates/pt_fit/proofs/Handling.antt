@@ -3,6 +3,7 @@ use Rattle.std.proofs.Common.{append_assoc}
 use Rattle.std.proofs.Common.{◌≡◌, ◌∙◌, ◌++◌, ◌∷◌, [], if◌then◌else◌, ℕ, Bool, List, None, Option, Some, ap, false}
 use Rattle.std.proofs.Common.{refl, subst, sym, true}
 use Rattle.pt_host.specs.Errno.{ebadf, estale}
+use Rattle.pt_host.specs.Flags.{includes, o_trunc}
 use Rattle.pt_host.specs.Words.{Each}
 use Rattle.pt_host.specs.declared.flags.OpenFlags.{OpenFlags}
 use Rattle.pt_host.specs.declared.ids.Fd.{Fd}
@@ -24,17 +25,17 @@ use Rattle.pt_frame.specs.Replies.{passes_with}
 use Rattle.pt_frame.specs.Tree.{Asks, Bares, Gives, Refuses, RequestTree, Shuts, on, go_on}
 use Rattle.pt_frame.specs.declared.act.ActReply.{ActReply}
 use Rattle.pt_frame.specs.declared.act.ActReply.TheVariants.{Event, Host, NoCopy}
-use Rattle.pt_req.specs.Capability.{drops_fsetid, fsetid, without_fsetid}
-use Rattle.pt_req.specs.Creating.{are_same, if_same, named_handle}
+use Rattle.pt_req.specs.Capability.{capability_cleared, cleared_if, drops_fsetid, fsetid, without_fsetid}
 use Rattle.pt_req.specs.Entries.{can_open}
 use Rattle.pt_req.specs.Options.{cleaned, create_options, inode_flags, without_nofollow}
 use Rattle.pt_req.specs.Parts.{handled, open_form, open_num, open_row}
 use Rattle.pt_req.specs.Steps.{draw_handle, insert_handle, resolve, take_fd, drawn_in, fd_in, inserted_in, ok_in}
-use Rattle.pt_req.specs.Steps.{new_handle_of, resolved_in, taken_in}
+use Rattle.pt_req.specs.Steps.{gone_in, is_gone, new_handle_of, resolved_in, taken_in}
 use Rattle.pt_session.specs.declared.reply.Resolved.{Resolved}
 use Rattle.pt_req.specs.declared.begun.BegunSession.{BegunSession}
-use Rattle.pt_req.specs.declared.parts.asked.NamedHandle.{NamedHandle}
 use Rattle.pt_req.specs.declared.plan.Plan.{Plan}
+use Rattle.pt_attr.specs.declared.parts.creating.NamedHandle.{NamedHandle}
+use Rattle.pt_attr.specs.Creating.{are_same, if_same, named_handle}
 use Rattle.pt_law.specs.Branch.{Along, AreOwn, ReturnsHold}
 use Rattle.pt_law.proofs.Giving.{own_quiet, own_same}
 use Rattle.pt_fit.proofs.Leading.{HasEntry, no_refusal, returns_give, returns_insert}
@@ -253,6 +254,42 @@ without_along true next (step ∷ path) last p a =
       on = set_along next o.told o.rest last p o.on;
     }
 
+gone_or_told : (gone : Bool) (next : RequestTree) (told : ActReply) (path : List Step) (last : Answer) →
+    HasEntry last → Along (go_on (λ done. next) told (if gone then Some (tt {0}) else None)) path last →
+    Along next path last
+unfolding go_on
+gone_or_told true next told path last p a = a
+gone_or_told false next told path last p a = absurd (refused_along told path last p a)
+
+gone_along : (next : RequestTree) (told : ActReply) (path : List Step) (last : Answer) → HasEntry last →
+    Along (on gone_in (λ done. next) told) path last → Along next path last
+unfolding on
+gone_along next told path last p a = gone_or_told (is_gone told) next told path last p a
+
+-- and likewise to what follows the end of a file's capabilities
+cleared_along : (name : Option (List ℕ)) (fd : Fd) (through : Bool) (next : RequestTree) (path : List Step)
+    (last : Answer) → HasEntry last → Along (capability_cleared name fd through next) path last →
+    ComesInto next path last
+unfolding on go_on
+cleared_along None fd through next path last p a =
+    record { first = []; rest = path; are = refl; makes_none = tt; gives_none = tt; on = a }
+cleared_along (Some name) fd through next path last p a =
+    let o = along_on (Calls (call.RemoveXattr fd through name)) (on gone_in (λ done. next)) path last refl p a in
+    record {
+      first = made (Calls (call.RemoveXattr fd through name)) o.told ∷ [];
+      rest = o.rest;
+      are = o.are;
+      makes_none = (tt, tt);
+      gives_none = (tt, tt);
+      on = gone_along next o.told o.rest last p o.on;
+    }
+
+cleared_if_along : (emptied : Bool) (name : Option (List ℕ)) (fd : Fd) (next : RequestTree) (path : List Step)
+    (last : Answer) → HasEntry last → Along (cleared_if emptied name fd next) path last → ComesInto next path last
+cleared_if_along false name fd next path last p a =
+    record { first = []; rest = path; are = refl; makes_none = tt; gives_none = tt; on = a }
+cleared_if_along true name fd next path last p a = cleared_along name fd false next path last p a
+
 -- what was there is opened anew by its number, and that gets the handle
 pub opened_num_along : (plan : Plan) (seat : HostSeat) (session : BegunSession) (kill : Bool) (flags : ℕ)
     (entry given : Entry) (handle : ℕ) (options : OpenOptions) (path : List Step) →
@@ -266,26 +303,42 @@ opened_num_along plan seat session kill flags entry given handle options path a 
     last refl refl w.on in
     let k = resolved_along (λ row. open_row row bits drawn) r.told r.rest last refl r.on in
     let o = kind (can_open k.0.mode) k.0.form r.rest k.2 in
+    let c = cleared_if_along (includes flags o_trunc) plan.capability o.0 (gets_handle o.0) o.3 last refl o.5 in
     let d = drawing_along session entry.inode o.0 (λ handle. Shuts false (answers plan (named_handle entry handle)))
-    o.3 last refl o.5 in
+    c.rest last refl c.on in
     let e = answered_along plan entry given d.0 handle options d.2 d.4 in
+    let takes : List Step = handle_drawn d.0 ∷ slot_taken ∷ [] in
     let opens : List Step = made (Changes (change.Resolve entry.inode)) (Event (event.Resolved k.0))
-    ∷ made (Calls (call.Reopen o.1 o.2)) (Host (host.Ok (value.Fd o.0))) ∷ handle_drawn d.0 ∷ slot_taken ∷ [] in
+    ∷ made (Calls (call.Reopen o.1 o.2)) (Host (host.Ok (value.Fd o.0))) ∷ (c.first ++ takes) in
     let inserts : List Step = inserted session.era d.0 entry.inode o.0 d.1 ∷ [] in
     let later : w.rest ≡ opens ++ inserts =
     step_to r.are k.1 (o.4
-    ∙ ap (λ (z : List Step). made (Calls (call.Reopen o.1 o.2)) (Host (host.Ok (value.Fd o.0))) ∷ z) (d.3
-    ∙ (λ i. handle_drawn d.0 ∷ slot_taken ∷ inserted session.era d.0 entry.inode o.0 d.1 ∷ e.0 i))) in
+    ∙ ap (λ (z : List Step). made (Calls (call.Reopen o.1 o.2)) (Host (host.Ok (value.Fd o.0))) ∷ z) (c.are
+    ∙ ap (λ (z : List Step). c.first ++ z) (d.3
+    ∙ (λ i. handle_drawn d.0 ∷ slot_taken ∷ inserted session.era d.0 entry.inode o.0 d.1 ∷ e.0 i))
+    ∙ sym (append_assoc c.first takes inserts))) in
     let by : HandlesOwn entry.inode d.0 path = record {
       era = session.era;
       fd = o.0;
       told = d.1;
       first = w.first ++ opens;
       are = w.are ∙ ap (λ (z : List Step). w.first ++ z) later ∙ sym (append_assoc w.first opens inserts);
-      makes_none = each_join (λ (step : Step). MakesNone step.deed step.reply) w.first opens w.makes_none
-          (tt, (tt, (tt, (tt, tt))));
-      gives_none = each_join (λ (step : Step). GivesNone step.deed step.reply) w.first opens w.gives_none
-          (tt, (tt, (tt, (tt, tt))));
+      makes_none = each_join (λ (step : Step). MakesNone step.deed step.reply) w.first opens w.makes_none (
+        tt,
+        (
+          tt,
+          each_join (λ (step : Step). MakesNone step.deed step.reply) c.first takes c.makes_none
+              (tt, (tt, tt)),
+        ),
+      );
+      gives_none = each_join (λ (step : Step). GivesNone step.deed step.reply) w.first opens w.gives_none (
+        tt,
+        (
+          tt,
+          each_join (λ (step : Step). GivesNone step.deed step.reply) c.first takes c.gives_none
+              (tt, (tt, tt)),
+        ),
+      );
     } in
     (e.1, subst (λ n. HandlesOwn entry.inode n path) e.2 by)
   where
@@ -295,9 +348,11 @@ opened_num_along plan seat session kill flags entry given handle options path a 
     bits : ℕ
     bits = inode_flags plan.config session.agreed (cleaned plan.config flags)
 
+    gets_handle : Fd → RequestTree
+    gets_handle fd = handled session entry.inode fd (λ handle. Shuts false (answers plan (named_handle entry handle)))
+
     drawn : Fd → RequestTree
-    drawn fd = Bares (handled session entry.inode fd (λ handle.
-        Shuts false (answers plan (named_handle entry handle))))
+    drawn fd = Bares (cleared_if (includes flags o_trunc) plan.capability fd (gets_handle fd))
 
     form_along : (form : RowForm) (rest : List Step) → Along (open_form form bits drawn) rest last →
         (fd : Fd) × (dir : Fd) × (how : OpenFlags) × (more : List Step)

@@ -2,6 +2,8 @@
 use Rattle.std.proofs.Common.{◌≡◌, ◌++◌, ◌∷◌, ◌∙◌, [], if◌then◌else◌, ℕ, Bool, List, None, Option, Some, ap, false}
 use Rattle.std.proofs.Common.{inl, inr, refl, true}
 use Rattle.pt_host.specs.Errno.{ebadf, errno_of}
+use Rattle.pt_host.specs.Flags.{includes, o_trunc}
+use Rattle.pt_host.specs.Words.{Takes.{here}}
 use Rattle.pt_host.specs.declared.ids.Fd.{Fd}
 use Rattle.pt_host.specs.declared.ids.ObjIds.{ObjIds}
 use Rattle.pt_host.specs.declared.seat.HostSeat.{HostSeat}
@@ -40,7 +42,7 @@ use Rattle.pt_fit.proofs.Parts.{fit_open_root, fit_reopen, fit_resolve, fit_reso
 use Rattle.pt_fit.proofs.Parts.{fit_shuts_passing, fit_stat, fit_take_fd, noting, resolution}
 use Rattle.pt_fit.proofs.Parts.{still, Ids, IsToldLast, Opened, Seen}
 use Rattle.pt_fit.proofs.Refused.{path_heeded}
-use Rattle.pt_fit.proofs.Scopes.{fit_bares, fit_without_fsetid}
+use Rattle.pt_fit.proofs.Scopes.{fit_bares, fit_cleared_if, fit_without_fsetid}
 use Rattle.pt_fit.proofs.Telling.{told_here, told_past}
 
 -- a leaf
@@ -225,10 +227,11 @@ fit_open_num {holds = holds} plan seat session number kill flags next o b e f =
     fit_brackets _ (fit_without_fsetid dropped _ (
     fit_open_inode dropped plan session number (cleaned plan.config flags) _ o b (λ row dir fd.
     fit_bares dropped _ (λ one. refl) (
+    fit_cleared_if (includes flags o_trunc) plan.capability fd _ (hold.Fd fd, _, here, refl) (
     fit_draw_handle _ (λ handle.
     fit_take_fd fd _
     (fit_insert_handle session handle number row fd _ e refl refl refl
-    (fit_shuts _ (hold.Pin row (Some dir) ∷ []) holds (λ later l. f handle later))))))))
+    (fit_shuts _ (hold.Pin row (Some dir) ∷ []) holds (λ later l. f handle later)))))))))
 
 -- the function is not there
 pub fit_unserved : (asked : Asking) → OwnCause asked.plan asked.who asked.request (errno_of 38) →

@@ -1,11 +1,11 @@
 -- A handle that a request inserted is the one that it is answered with.
 use Rattle.std.proofs.Common.{◌≡◌, inl, inr, ◌∷◌, ◌∙◌, [], if◌then◌else◌, ℕ, Bool, List, None, Option, Some}
-use Rattle.std.proofs.Common.{Result, ap, arith, false, refl, true}
+use Rattle.std.proofs.Common.{Err, Ok, Result, ap, arith, false, refl, true}
 use Rattle.std.specs.Int.{w64, cast_signed}
 use Rattle.std.specs.List.{list_any}
-use Rattle.std.specs.Prelude.{◌||◌}
+use Rattle.std.specs.Prelude.{◌||◌, ◌==◌, ◌^◌, nat_lt}
 use Rattle.pt_host.specs.Call.{Call}
-use Rattle.pt_host.specs.Errno.{einval, eopnotsupp, eperm, errno_of, estale}
+use Rattle.pt_host.specs.Errno.{eio, einval, enosys, eopnotsupp, eoverflow, eperm, eproto, errno_of, estale}
 use Rattle.pt_host.specs.Flags.{o_directory}
 use Rattle.pt_host.specs.declared.edit.Edit.{Edit}
 use Rattle.pt_host.specs.declared.flags.OpenFlags.{OpenFlags}
@@ -18,10 +18,18 @@ use Rattle.pt_host.specs.declared.seat.HostSeat.{HostSeat}
 use Rattle.pt_creds.specs.Identity.{Credentials, override_cap}
 use Rattle.pt_creds.specs.Steps.{cred_steps}
 use Rattle.pt_creds.specs.declared.credentials.CredSteps.{CredSteps}
+use Rattle.pt_maps.specs.MappedNames.{client_name}
+use Rattle.pt_maps.specs.declared.xattr_map.AppliedRule.{AppliedRule}
+use Rattle.pt_maps.specs.declared.xattr_map.AppliedRule.TheVariants as applied
+use Rattle.pt_maps.specs.declared.xattr_rule.XattrRule.{XattrRule}
 use Rattle.pt_session.specs.Tables.{nothing_agreed}
 use Rattle.pt_session.specs.declared.event.KeptEvent.TheVariants as change
+use Rattle.pt_session.specs.declared.form.Negotiated.{Negotiated}
 use Rattle.pt_iface.specs.declared.answer.Answer.{Answer}
 use Rattle.pt_iface.specs.declared.answer.Answer.TheVariants as answer
+use Rattle.pt_iface.specs.declared.answer.GetxattrReply.TheVariants as xattr
+use Rattle.pt_iface.specs.declared.answer.ListxattrReply.TheVariants as xattrs
+use Rattle.pt_iface.specs.declared.directory.DirEntry.{DirEntry}
 use Rattle.pt_iface.specs.declared.entry.Entry.{Entry}
 use Rattle.pt_iface.specs.declared.flags.SetattrValid.{SetattrValid}
 use Rattle.pt_iface.specs.declared.request.Context.{Context}
@@ -32,32 +40,34 @@ use Rattle.pt_iface.specs.declared.request.SetattrIn.{SetattrIn}
 use Rattle.pt_frame.specs.Deed.{Calls, Changes, Deed, Step}
 use Rattle.pt_frame.specs.Edit.{edit_answer, edit_grammar}
 use Rattle.pt_frame.specs.Grammar.{Belongs}
-use Rattle.pt_frame.specs.Tree.{Bares, Gives, RequestTree, Shuts, on}
+use Rattle.pt_frame.specs.Replies.{bytes_of}
+use Rattle.pt_frame.specs.Tree.{Bares, Gives, RequestTree, Shuts, make_bytes, on}
 use Rattle.pt_frame.specs.declared.act.ActReply.{ActReply}
 use Rattle.pt_frame.specs.declared.act.ActReply.TheVariants.{Host}
 use Rattle.pt_frame.specs.declared.finish.Finish.TheVariants as finish
 use Rattle.pt_frame.specs.declared.hold.Hold.TheVariants as hold
 use Rattle.pt_req.specs.Asker.{as_asker, asker_of, cap_raised, egid_set, euid_set, group_set, taken_on}
-use Rattle.pt_req.specs.Attributes.{is_blocked}
+use Rattle.pt_req.specs.Asker.{umask_of, under_umask}
+use Rattle.pt_req.specs.Attributes.{Label, by_rule, by_rules, host_label, host_name, is_blocked}
 use Rattle.pt_req.specs.Capability.{drops_fsetid}
-use Rattle.pt_req.specs.Creating.{FileAsked, are_same, if_same, label_set, labelled, made_file, make_file}
-use Rattle.pt_req.specs.Creating.{named_handle, new_file, old_file, takes_old, undone}
-use Rattle.pt_req.specs.Entries.{attr_of}
-use Rattle.pt_req.specs.Options.{agreed_with, create_options, init_options, making_flags}
+use Rattle.pt_req.specs.Entries.{attr_of, can_open}
+use Rattle.pt_req.specs.Options.{agreed_with, create_options, init_options, is_short_of, making_flags}
 use Rattle.pt_req.specs.Options.{o_nofollow, open_options, with_bits}
-use Rattle.pt_req.specs.Parts.{by_path}
-use Rattle.pt_req.specs.Requests.{batch_forget, create, file_asked, open_file, release, unserved}
+use Rattle.pt_req.specs.Parts.{by_path, file_of, open_inode}
+use Rattle.pt_req.specs.Requests.{batch_forget, init_answer, open_file, release, unserved}
 use Rattle.pt_req.specs.Steps.{begin, made_in, make_at, ok_in, or_refused, pin_handle, pinned_in, refused_in}
 use Rattle.pt_req.specs.Steps.{session_of, tried_in}
 use Rattle.pt_session.specs.declared.reply.Resolved.{Resolved}
 use Rattle.pt_req.specs.declared.begun.BegunSession.{BegunSession}
 use Rattle.pt_req.specs.declared.replies.Made.{Made}
 use Rattle.pt_req.specs.declared.replies.Made.TheVariants.{New, Old}
-use Rattle.pt_req.specs.declared.parts.asked.NamedHandle.{NamedHandle}
 use Rattle.pt_req.specs.declared.plan.Plan.{Plan}
 use Rattle.pt_req.proofs.Replying.{if_bytes}
 use Rattle.pt_req.proofs.Replying.{if_made, if_refused, if_pinned, if_set, if_tried}
 use Rattle.pt_job.specs.Pattern.{Asked, Edits, Requests, grammar_for, tree_of}
+use Rattle.pt_attr.specs.declared.parts.creating.NamedHandle.{NamedHandle}
+use Rattle.pt_attr.specs.Creating.{FileAsked, are_same, if_same, labelled, labelled_by, made_file, make_file}
+use Rattle.pt_attr.specs.Creating.{named_handle, new_file, old_file, takes_old, undone, create, file_asked}
 use Rattle.pt_attr.specs.Access.{is_granted}
 use Rattle.pt_attr.specs.Contents.{appends, fsync}
 use Rattle.pt_attr.specs.Making.{ObjectAsked, is_nul, kept_at, label_at, labelled_at, make_object, set_opened}
@@ -68,6 +78,13 @@ use Rattle.pt_attr.specs.Setting.{cut_if, kills_suidgid, own_if, set_size, sized
 use Rattle.pt_attr.specs.Steps.{count_in, count_of, make, opened_in}
 use Rattle.pt_attr.specs.declared.parts.setting.Target.{Target}
 use Rattle.pt_attr.proofs.Replying.{if_count, if_fs_stat, if_opened}
+use Rattle.pt_xattr.specs.Listed.{entries_of, names_told}
+use Rattle.pt_xattr.specs.Parts.{allowed, allowed_to_read, as_missing, file_by, kills_sgid, list_length, list_told}
+use Rattle.pt_xattr.specs.Parts.{list_whole, nul_free, sgid_killed, value_length, value_told, value_whole, with_xattr}
+use Rattle.pt_xattr.specs.Parts.{without_sgid, xattr_file}
+use Rattle.pt_xattr.specs.Requests.{listed_from, listing, readdir}
+use Rattle.pt_xattr.specs.Steps.{bytes_told}
+use Rattle.pt_xattr.specs.declared.parts.XattrFile.{XattrFile}
 use Rattle.pt_job.specs.Requests.{object_asked}
 use Rattle.pt_law.specs.Branch.{AreOwn, AreOwn.{keep, none, skip}, ReturnsHold}
 use Rattle.pt_law.specs.Ledger.{handle_inserted_as, weighed}
@@ -75,6 +92,7 @@ use Rattle.pt_law.specs.Told.{AllMayBeTold}
 use Rattle.pt_law.proofs.Branches.{branch}
 use Rattle.pt_fit.specs.Handled.{KeepsHandle, handle_count, handles_in}
 use Rattle.pt_fit.proofs.HandleParts.{Hands, Yields, P, asks, bares, begins, both_files, brackets, checks, clears}
+use Rattle.pt_fit.proofs.HandleParts.{clears_capability}
 use Rattle.pt_fit.proofs.HandleParts.{decides, does, dones, files, gets_handle, gives, hands, looks_up, one_file}
 use Rattle.pt_fit.proofs.HandleParts.{opens_inode, opens_num, opens_shared, refuses, refuses_so, resolves}
 use Rattle.pt_fit.proofs.HandleParts.{names, opens_row, places, sets_on, shuts, stats, step_none, without}
@@ -99,30 +117,33 @@ does_if : (is : Bool) (asked : Call) (next : RequestTree) → Yields next → Yi
 does_if true asked next so = does asked next so
 does_if false asked next so = so
 
-owns : (file : Fd) (uid gid : Option ℕ) (next : RequestTree) → Yields next → Yields (own_as file uid gid next)
-owns file (Some uid) (Some gid) next so = does (call.ChOwn file uid gid) next so
-owns file (Some uid) None next so = refuses_so eperm
-owns file None gid next so = refuses_so eperm
+owns : (name : Option (List ℕ)) (file : Fd) (uid gid : Option ℕ) (next : RequestTree) → Yields next →
+    Yields (own_as name file uid gid next)
+owns name file (Some uid) (Some gid) next so =
+    clears_capability name file true _ (does (call.ChOwn file uid gid) next so)
+owns name file (Some uid) None next so = refuses_so eperm
+owns name file None gid next so = refuses_so eperm
 
-owns_if : (is : Bool) (file : Fd) (uid gid : Option ℕ) (next : RequestTree) → Yields next →
-    Yields (own_if is file uid gid next)
-owns_if true file uid gid next so = owns file uid gid next so
-owns_if false file uid gid next so = so
+owns_if : (is : Bool) (name : Option (List ℕ)) (file : Fd) (uid gid : Option ℕ) (next : RequestTree) → Yields next →
+    Yields (own_if is name file uid gid next)
+owns_if true name file uid gid next so = owns name file uid gid next so
+owns_if false name file uid gid next so = so
 
 sets_owner : (plan : Plan) (valid : SetattrValid) (attr : SetattrIn) (file : Fd) (next : RequestTree) → Yields next →
     Yields (set_owner plan valid attr file next)
 sets_owner plan valid attr file next so =
-    owns_if (sets_uid valid || sets_gid valid) file _ _ next so
+    owns_if (sets_uid valid || sets_gid valid) plan.capability file _ _ next so
 
-cuts : (is drops : Bool) (file : Fd) (size : ℕ) (next : RequestTree) → Yields next →
-    Yields (cut_if is drops file size next)
-cuts true drops file size next so = without drops _ (does (call.Truncate file size) _ (bares next so))
-cuts false drops file size next so = so
+cuts : (is drops : Bool) (name : Option (List ℕ)) (file : Fd) (size : ℕ) (next : RequestTree) → Yields next →
+    Yields (cut_if is drops name file size next)
+cuts true drops name file size next so =
+    without drops _ (clears_capability name file false _ (does (call.Truncate file size) _ (bares next so)))
+cuts false drops name file size next so = so
 
 sizes : (plan : Plan) (seat : HostSeat) (valid : SetattrValid) (attr : SetattrIn) (target : Target)
     (next : RequestTree) → Yields next → Yields (set_size plan seat valid attr target next)
 sizes plan seat valid attr target next so =
-    cuts (sets_size valid) (drops_fsetid plan seat (kills_suidgid valid)) target.fd attr.size next so
+    cuts (sets_size valid) (drops_fsetid plan seat (kills_suidgid valid)) plan.capability target.fd attr.size next so
 
 sizes_well : (valid : SetattrValid) (attr : SetattrIn) (next : RequestTree) → Yields next →
     Yields (sized valid attr next)
@@ -162,14 +183,20 @@ takes_on steps next so =
     sets_group steps.groups (egid_set steps.egid under_uid)
     (sets_egid steps.egid under_uid (sets_euid steps.euid raised (raises steps.raise next so)))
 
-makes : (seat : HostSeat) (asker : Option Credentials) (dir : Fd) (name : List ℕ) (flags : OpenFlags) (mode : ℕ)
-    (may_be : Bool) (next : Made → RequestTree) → ((fd : Fd) → Yields (next (New fd))) → Yields (next Old) →
-    Yields (as_asker seat asker (make_at dir name flags mode may_be next))
-makes seat None dir name flags mode may_be next so other = refuses_so eperm
-makes seat (Some creds) dir name flags mode may_be next so other =
-    takes_on (cred_steps creds seat) (make_at dir name flags mode may_be next) (
+sets_umask : (umask : Option ℕ) (next : RequestTree) → Yields next → Yields (under_umask umask next)
+sets_umask None next so = so
+sets_umask (Some mask) next so = sets_on (call.SetUmask mask) hold.Umask next so
+
+makes : (seat : HostSeat) (asker : Option Credentials) (umask : Option ℕ) (dir : Fd) (name : List ℕ)
+    (flags : OpenFlags) (mode : ℕ) (may_be : Bool) (next : Made → RequestTree) →
+    ((fd : Fd) → Yields (next (New fd))) → Yields (next Old) →
+    Yields (as_asker seat asker (under_umask umask (make_at dir name flags mode may_be next)))
+makes seat None umask dir name flags mode may_be next so other = refuses_so eperm
+makes seat (Some creds) umask dir name flags mode may_be next so other =
+    takes_on (cred_steps creds seat) (under_umask umask (make_at dir name flags mode may_be next)) (
+    sets_umask umask (make_at dir name flags mode may_be next) (
     asks (Calls (call.OpenAt dir name flags mode)) (λ told. Bares (on (made_in may_be) next told)) (λ h told. refl)
-    (λ told. bares _ (if_made P next may_be refuses so (λ errno. other) (λ errno. other) told)))
+    (λ told. bares _ (if_made P next may_be refuses so (λ errno. other) (λ errno. other) told))))
 
 abbrev answers : Plan → NamedHandle → RequestTree
 answers plan named = Gives (answer.Created named.entry named.handle (create_options plan.config))
@@ -184,22 +211,48 @@ undoes undoing last without =
     asks (Calls undoing) (on tried_in (λ done. Gives last)) (λ h told. refl)
     (if_tried P (Gives last) refuses (λ told. gives last without))
 
-label_sets : (session : BegunSession) (fd : Fd) (undoing : Call) (label : SecContext) (next : RequestTree) →
-    Yields next → Yields (label_set session fd undoing label next)
-unfolding label_set
-label_sets session fd undoing label next so =
-    checks (is_blocked session.agreed label.name) _ _ (undoes undoing (answer.Refused eopnotsupp) (λ h. refl)) (
-    asks (Calls (call.SetXattr fd false label.name label.value 0)) (on refused_in (or_refused (undone undoing) next))
+label_sets : (fd : Fd) (undoing : Call) (value : List ℕ) (name : Result (List ℕ) Errno) (next : RequestTree) →
+    Yields next → Yields (labelled_by fd undoing value name next)
+label_sets fd undoing value (Err errno) next so = undoes undoing (answer.Refused errno) (λ h. refl)
+label_sets fd undoing value (Ok name) next so =
+    asks (Calls (call.SetXattr fd false name value 0)) (on refused_in (or_refused (undone undoing) next))
     (λ h told. refl)
     (if_refused P (or_refused (undone undoing) next) refuses (λ told. so)
     (λ errno. undoes undoing (answer.Refused errno) (λ h. refl))
     (λ errno. undoes undoing (answer.Refused errno) (λ h. refl))
-    (undoes undoing answer.NoMemory (λ h. refl)) (undoes undoing answer.NoMemory (λ h. refl))))
+    (undoes undoing answer.NoMemory (λ h. refl)) (undoes undoing answer.NoMemory (λ h. refl)))
 
-labels : (session : BegunSession) (fd : Fd) (undoing : Call) (label : Option SecContext) (next : RequestTree) →
-    Yields next → Yields (labelled session fd undoing label next)
-labels session fd undoing None next so = so
-labels session fd undoing (Some label) next so = label_sets session fd undoing label next so
+labels : (fd : Fd) (undoing : Call) (label : Option Label) (next : RequestTree) → Yields next →
+    Yields (labelled fd undoing label next)
+labels fd undoing None next so = so
+labels fd undoing (Some label) next so = label_sets fd undoing label.value label.name next so
+
+-- a context, by the host's name
+makes_bytes : (made : List ℕ) (next : List ℕ → RequestTree) → Yields (next made) → Yields (make_bytes made next)
+makes_bytes made next so = record { on = so.on; up = so.up }
+
+label_by_rule : (fate : Option AppliedRule) (next : Result (List ℕ) Errno → RequestTree) →
+    ((name : Result (List ℕ) Errno) → Yields (next name)) → Yields (by_rule fate next)
+label_by_rule (Some (applied.Pass made)) next so = makes_bytes made (λ kept. next (Ok kept)) (so (Ok made))
+label_by_rule (Some applied.Deny) next so = so (Err eperm)
+label_by_rule (Some applied.Unsupported) next so = so (Err eopnotsupp)
+label_by_rule None next so = so (Err eopnotsupp)
+
+label_by_rules : (rules : Option (List XattrRule)) (name : List ℕ) (next : Result (List ℕ) Errno → RequestTree) →
+    ((name : Result (List ℕ) Errno) → Yields (next name)) → Yields (by_rules rules name next)
+label_by_rules None name next so = so (Ok name)
+label_by_rules (Some rules) name next so = label_by_rule (client_name rules name) next so
+
+names_host : (plan : Plan) (agreed : Negotiated) (name : List ℕ) (next : Result (List ℕ) Errno → RequestTree) →
+    ((name : Result (List ℕ) Errno) → Yields (next name)) → Yields (host_name plan agreed name next)
+unfolding host_name
+names_host plan agreed name next so =
+    checks (is_blocked agreed name) _ _ (so (Err eopnotsupp)) (label_by_rules plan.config.xattrmap name next so)
+
+hosts_label : (plan : Plan) (agreed : Negotiated) (brought : Option SecContext) (next : Option Label → RequestTree) →
+    ((label : Option Label) → Yields (next label)) → Yields (host_label plan agreed brought next)
+hosts_label plan agreed None next so = so None
+hosts_label plan agreed (Some label) next so = names_host plan agreed label.name _ (λ name. so _)
 
 same : (is_same : Bool) (next : RequestTree) → Yields next →
     Yields (if is_same then next else Gives (answer.Refused estale))
@@ -210,12 +263,12 @@ sames : (made found : ObjIds) (next : RequestTree) → Yields next → Yields (i
 unfolding if_same
 sames made found next so = same (are_same made found) next so
 
-makes_new : (plan : Plan) (session : BegunSession) (asked : FileAsked) (dir fd : Fd) →
-    Yields (new_file plan session asked dir fd (answers plan))
+makes_new : (plan : Plan) (session : BegunSession) (asked : FileAsked) (label : Option Label) (dir fd : Fd) →
+    Yields (new_file plan session asked label dir fd (answers plan))
 unfolding new_file
-makes_new plan session asked dir fd =
+makes_new plan session asked label dir fd =
     stats fd _ (λ made.
-    labels session fd (call.Unlink dir asked.name) asked.ext.secctx _ (
+    labels fd (call.Unlink dir asked.name) label _ (
     looks_up plan session asked.parent asked.name _ (λ looked.
     sames made.ids looked.ids _ (
     gets_handle session looked.entry.inode fd (λ handle. answers plan (named_handle looked.entry handle))
@@ -228,20 +281,22 @@ takes_old_one plan seat session asked =
     looks_up plan session asked.parent asked.name _ (λ looked.
     opens_num plan seat session looked.entry.inode asked.kill asked.flags _ (made_so plan looked.entry))
 
-makes_file : (plan : Plan) (seat : HostSeat) (session : BegunSession) (asked : FileAsked) (dir : Fd) →
-    Yields (make_file plan seat session asked dir (answers plan))
+makes_file : (plan : Plan) (seat : HostSeat) (session : BegunSession) (asked : FileAsked) (label : Option Label)
+    (dir : Fd) → Yields (make_file plan seat session asked label dir (answers plan))
 unfolding make_file
-makes_file plan seat session asked dir =
-    makes seat (asker_of plan session asked.who asked.ext.sup_gid) dir asked.name (making_flags asked.flags) asked.mode
-    (takes_old asked.flags) (λ made. made_file plan seat session asked dir made (answers plan))
-    (makes_new plan session asked dir) (takes_old_one plan seat session asked)
+makes_file plan seat session asked label dir =
+    makes seat (asker_of plan session asked.who asked.ext.sup_gid) (umask_of session (Some asked.umask)) dir asked.name
+    (making_flags asked.flags) asked.mode (takes_old asked.flags)
+    (λ made. made_file plan seat session asked label dir made (answers plan))
+    (makes_new plan session asked label dir) (takes_old_one plan seat session asked)
 
 creates_it : (plan : Plan) (seat : HostSeat) (asked : FileAsked) → Yields (begin (create plan seat asked))
 creates_it plan seat asked =
     begins _ (λ session.
     names asked.name _ (
     resolves asked.parent _ (λ directory.
-    files directory.form _ (λ dir. makes_file plan seat session asked dir))))
+    hosts_label plan session.agreed asked.ext.secctx _ (λ label.
+    files directory.form _ (λ dir. makes_file plan seat session asked label dir)))))
 
 -- an object under a name, which gets its context by a descriptor of its own
 module _ (undoing : Call) (next : RequestTree) (so : Yields next) where
@@ -264,34 +319,33 @@ module _ (undoing : Call) (next : RequestTree) (so : Yields next) where
       (if_refused P shut refuses (λ told. shuts false _ so) shut_refused shut_refused shut_out shut_out))
       shut_refused shut_refused shut_out shut_out))
 
-  label_sets_at : (session : BegunSession) (dir : Fd) (name : List ℕ) (label : SecContext) →
-      Yields (label_at session dir name undoing label next)
-  unfolding label_at
-  label_sets_at session dir name label =
-      checks (is_blocked session.agreed label.name) _ _ (undoes undoing (answer.Refused eopnotsupp) (λ h. refl))
-      (keeps_at dir name label.name label.value)
+  label_sets_at : (dir : Fd) (name value : List ℕ) (attribute : Result (List ℕ) Errno) →
+      Yields (label_at dir name undoing value attribute next)
+  label_sets_at dir name value (Err errno) = undoes undoing (answer.Refused errno) (λ h. refl)
+  label_sets_at dir name value (Ok attribute) = keeps_at dir name attribute value
 
-  labels_at : (session : BegunSession) (dir : Fd) (name : List ℕ) (label : Option SecContext) →
-      Yields (labelled_at session dir name undoing label next)
-  labels_at session dir name None = so
-  labels_at session dir name (Some label) = label_sets_at session dir name label
+  labels_at : (dir : Fd) (name : List ℕ) (label : Option Label) → Yields (labelled_at dir name undoing label next)
+  labels_at dir name None = so
+  labels_at dir name (Some label) = label_sets_at dir name label.value label.name
 
-makes_object : (seat : HostSeat) (asker : Option Credentials) (making : Call) (next : RequestTree) → Yields next →
-    Yields (as_asker seat asker (make making next))
-makes_object seat None making next so = refuses_so eperm
-makes_object seat (Some creds) making next so =
-    takes_on (cred_steps creds seat) (make making next) (
+makes_object : (seat : HostSeat) (asker : Option Credentials) (umask : Option ℕ) (making : Call) (next : RequestTree) →
+    Yields next → Yields (as_asker seat asker (under_umask umask (make making next)))
+makes_object seat None umask making next so = refuses_so eperm
+makes_object seat (Some creds) umask making next so =
+    takes_on (cred_steps creds seat) (under_umask umask (make making next)) (
+    sets_umask umask (make making next) (
     asks (Calls making) (λ told. Bares (on ok_in (λ done. next) told)) (λ h told. refl)
-    (λ told. bares _ (if_set P next refuses (λ got. so) told)))
+    (λ told. bares _ (if_set P next refuses (λ got. so) told))))
 
-makes_kind : (plan : Plan) (seat : HostSeat) (session : BegunSession) (object : ObjectAsked) (kind : Kind) (dir : Fd) →
-    Yields (make_kind plan seat session object kind dir)
+makes_kind : (plan : Plan) (seat : HostSeat) (session : BegunSession) (object : ObjectAsked) (kind : Kind)
+    (label : Option Label) (dir : Fd) → Yields (make_kind plan seat session object kind label dir)
 unfolding make_object
-makes_kind plan seat session object kind dir =
-    makes_object seat (asker_of plan session object.who object.ext.sup_gid) (making_call kind dir object.name) _ (
+makes_kind plan seat session object kind label dir =
+    makes_object seat (asker_of plan session object.who object.ext.sup_gid) (umask_of session object.umask)
+    (making_call kind dir object.name) _ (
     labels_at (unmaking_call kind dir object.name) _ (
     looks_up plan session object.parent object.name _ (λ looked.
-    gives (answer.Entry looked.entry) (λ h. refl))) session dir object.name object.ext.secctx)
+    gives (answer.Entry looked.entry) (λ h. refl))) dir object.name label)
 
 targeted_well : (kind : Kind) (next : RequestTree) → Yields next → Yields (targeted_as kind next)
 unfolding targeted
@@ -306,7 +360,9 @@ makes_named plan seat object kind =
     begins _ (λ session.
     names object.name _ (
     targeted_well kind _ (
-    one_file object.parent _ (λ dir. makes_kind plan seat session object kind dir))))
+    resolves object.parent _ (λ row.
+    hosts_label plan session.agreed object.ext.secctx _ (λ label.
+    files row.form _ (λ dir. makes_kind plan seat session object kind label dir))))))
 
 pins : (handle number : ℕ) (next : Fd → RequestTree) → ((fd : Fd) → Yields (next fd)) →
     Yields (pin_handle handle number next)
@@ -332,11 +388,99 @@ releases inode handle = begins _ (λ session.
 unserves : Yields (begin unserved)
 unserves = begins _ (λ session. refuses_so (errno_of 38))
 
+-- names of extended attributes, and what these are asked by
+guest_has : (plan : Plan) (next : RequestTree) → Yields next → Yields (with_xattr plan next)
+unfolding with_xattr
+guest_has plan next so = checks plan.config.xattr next (Gives (answer.Refused enosys)) so (refuses_so enosys)
+
+nul_frees : (name : List ℕ) (next : RequestTree) → Yields next → Yields (nul_free name next)
+unfolding nul_free
+nul_frees name next so =
+    checks (list_any (λ byte. byte == 0) name) (Gives (answer.Refused einval)) next (refuses_so einval) so
+
+allows : (name : Result (List ℕ) Errno) (next : List ℕ → RequestTree) → ((named : List ℕ) → Yields (next named)) →
+    Yields (allowed name next)
+unfolding allowed
+allows (Ok name) next so = so name
+allows (Err errno) next so = refuses_so errno
+
+allows_to_read : (name : Result (List ℕ) Errno) (next : List ℕ → RequestTree) →
+    ((named : List ℕ) → Yields (next named)) → Yields (allowed_to_read name next)
+unfolding allowed_to_read
+allows_to_read (Ok name) next so = so name
+allows_to_read (Err errno) next so = refuses_so (as_missing errno)
+
+opens_file : (plan : Plan) (session : BegunSession) (row : Resolved) (number : ℕ) (next : XattrFile → RequestTree) →
+    ((file : XattrFile) → Yields (next file)) → Yields (xattr_file plan session row number next)
+unfolding xattr_file
+opens_file plan session row number next so =
+    checks (can_open row.mode) (open_inode plan session number 2048 (λ fd. next (file_by false fd)))
+    (file_of row.form (λ fd. next (file_by true fd)))
+    (opens_inode plan session number 2048 _ (λ fd. so (file_by false fd)))
+    (files row.form _ (λ fd. so (file_by true fd)))
+
+kills : (is : Bool) (file : XattrFile) (next : RequestTree) → Yields next → Yields (sgid_killed is file next)
+kills false file next so = so
+kills true file next so =
+    stats file.fd _ (λ told. does (call.ChMod file.fd file.through (without_sgid told.mode)) next so)
+
+tells_bytes : (asked : Call) (next : List ℕ → RequestTree) → ((bytes : List ℕ) → Yields (next bytes)) →
+    Yields (bytes_told asked next)
+tells_bytes asked next so = asks (Calls asked) (on bytes_of next) (λ h told. refl) (if_bytes P next refuses so)
+
+tells_count : (fits : Bool) (last : Answer) → ((handle : ℕ) → handle_count handle last ≡ 0) →
+    Yields (Gives (if fits then last else answer.Refused eoverflow))
+tells_count true last empty = gives last empty
+tells_count false last empty = refuses_so eoverflow
+
+tells_value : (file : XattrFile) (name : List ℕ) (size : ℕ) → Yields (value_told file name size)
+unfolding value_told
+tells_value file name size =
+    checks (size == 0) (value_length file name size) (value_whole file name size)
+    (counts (call.GetXattr file.fd file.through name size) _ (λ count.
+    tells_count (nat_lt count (2 ^ 32)) (answer.Xattr (xattr.Count count)) (λ h. refl)))
+    (tells_bytes (call.GetXattr file.fd file.through name size) _ (λ value.
+    gives (answer.Xattr (xattr.Value value)) (λ h. refl)))
+
+tells_list : (plan : Plan) (agreed : Negotiated) (file : XattrFile) (size : ℕ) →
+    Yields (list_told plan agreed file size)
+unfolding list_told
+tells_list plan agreed file size =
+    checks (size == 0) (list_length file size) (list_whole plan agreed file size)
+    (counts (call.ListXattr file.fd file.through size) _ (λ count.
+    tells_count (nat_lt count (2 ^ 32)) (answer.Xattrs (xattrs.Count count)) (λ h. refl)))
+    (tells_bytes (call.ListXattr file.fd file.through size) _ (λ list.
+    makes_bytes (names_told plan agreed list) _ (
+    gives (answer.Xattrs (xattrs.Names (names_told plan agreed list))) (λ h. refl))))
+
+lists : (entries : Option (List DirEntry)) → Yields (listing entries)
+lists None = refuses_so eio
+lists (Some entries) =
+    let told : Yields (Gives (answer.Listing entries)) = gives (answer.Listing entries) (λ h. refl) in
+    record { on = told.on; up = told.up }
+
+reads_dir : (none : Bool) (inode handle size offset : ℕ) →
+    Yields (if none then Gives (answer.Listing []) else listed_from inode handle size offset)
+reads_dir true inode handle size offset = gives (answer.Listing []) (λ h. refl)
+reads_dir false inode handle size offset =
+    places offset _ (
+    pins handle inode _ (λ fd.
+    tells_bytes (call.ListAt fd (Some offset) size) _ (λ bytes. lists (entries_of bytes))))
+
+reads_directory : (inode handle size offset : ℕ) → Yields (begin (readdir inode handle size offset))
+unfolding readdir
+reads_directory inode handle size offset = begins _ (λ session. reads_dir (size == 0) inode handle size offset)
+
 each_keeps : (plan : Plan) (seat : HostSeat) (who : Context) (asked : Request) → Yields (tree_of plan seat who asked)
 each_keeps plan seat who (request.Init capable) =
     clears _ (λ era.
     opens_shared plan (session_of era nothing_agreed) (Some (agreed_with plan.config capable)) _ (
-    gives (answer.Inited (init_options plan.config capable)) (λ h. refl)))
+    gives (init_answer plan.config capable) (answers_none (is_short_of plan.config capable))))
+  where
+    answers_none : (short : Bool) (handle : ℕ) → handle_count handle
+        (if short then answer.Refused eproto else answer.Inited (init_options plan.config capable)) ≡ 0
+    answers_none true handle = refl
+    answers_none false handle = refl
 each_keeps plan seat who request.Destroy = clears _ (λ era. gives answer.NoReply (λ h. refl))
 each_keeps plan seat who request.Root =
     begins _ (λ session. opens_shared plan session None _ (gives answer.Done (λ h. refl)))
@@ -358,13 +502,13 @@ each_keeps plan seat who (request.Read inode handle size offset) =
     asks (Calls (call.ReadAt fd offset size)) _ (λ h told. refl) (if_bytes P _ refuses (λ bytes.
     gives (answer.Read bytes) (λ h. refl)))))))
 each_keeps plan seat who (request.Create parent name mode kill flags umask ext) =
-    creates_it plan seat (file_asked who parent name mode kill flags ext)
+    creates_it plan seat (file_asked who parent name mode kill flags umask ext)
 each_keeps plan seat who (request.Mkdir parent name mode umask ext) =
-    makes_named plan seat (object_asked who parent name ext) (Directory mode)
+    makes_named plan seat (object_asked who parent name (Some umask) ext) (Directory mode)
 each_keeps plan seat who (request.Mknod parent name mode rdev umask ext) =
-    makes_named plan seat (object_asked who parent name ext) (Node mode rdev)
+    makes_named plan seat (object_asked who parent name (Some umask) ext) (Node mode rdev)
 each_keeps plan seat who (request.Symlink target parent name ext) =
-    makes_named plan seat (object_asked who parent name ext) (Link target)
+    makes_named plan seat (object_asked who parent name None ext) (Link target)
 each_keeps plan seat who (request.Readlink inode) =
     begins _ (λ session.
     one_file inode _ (λ fd.
@@ -423,8 +567,9 @@ each_keeps plan seat who (request.Write inode handle offset bytes delayed kill f
     places offset _ (
     pins handle inode _ (λ fd.
     without (drops_fsetid plan seat kill) _ (
+    clears_capability plan.capability fd false _ (
     counts (call.WriteAt fd offset bytes (appends delayed flags)) _ (λ count.
-    bares _ (gives (answer.Wrote count) (λ h. refl)))))))
+    bares _ (gives (answer.Wrote count) (λ h. refl))))))))
 each_keeps plan seat who (request.Fallocate inode handle mode offset length) =
     begins _ (λ session.
     places offset _ (
@@ -452,8 +597,41 @@ each_keeps plan seat who (request.SyncFs inode) =
     begins _ (λ session.
     opens_inode plan session inode o_nofollow _ (λ fd.
     does (call.SyncFs fd) _ (gives answer.Done (λ h. refl))))
+each_keeps plan seat who (request.ReadDir inode handle size offset) = reads_directory inode handle size offset
+each_keeps plan seat who (request.SetXattr inode name value flags extra) =
+    begins _ (λ session.
+    guest_has plan _ (
+    nul_frees name _ (
+    resolves inode _ (λ row.
+    names_host plan session.agreed name _ (λ found.
+    allows found _ (λ named.
+    opens_file plan session row inode _ (λ file.
+    clears_capability plan.capability file.fd file.through _ (
+    kills (kills_sgid session.agreed extra named) file _ (
+    does (call.SetXattr file.fd file.through named value flags) _ (gives answer.Done (λ h. refl)))))))))))
+each_keeps plan seat who (request.GetXattr inode name size) =
+    begins _ (λ session.
+    guest_has plan _ (
+    nul_frees name _ (
+    names_host plan session.agreed name _ (λ found.
+    allows_to_read found _ (λ named.
+    resolves inode _ (λ row.
+    opens_file plan session row inode _ (λ file. tells_value file named size)))))))
+each_keeps plan seat who (request.ListXattr inode size) =
+    begins _ (λ session.
+    guest_has plan _ (
+    resolves inode _ (λ row.
+    opens_file plan session row inode _ (λ file. tells_list plan session.agreed file size))))
+each_keeps plan seat who (request.RemoveXattr inode name) =
+    begins _ (λ session.
+    guest_has plan _ (
+    nul_frees name _ (
+    resolves inode _ (λ row.
+    names_host plan session.agreed name _ (λ found.
+    allows found _ (λ named.
+    opens_file plan session row inode _ (λ file.
+    does (call.RemoveXattr file.fd file.through named) _ (gives answer.Done (λ h. refl)))))))))
 each_keeps plan seat who (request.Other opcode) = unserves
-each_keeps plan seat who asked = unserves
 
 -- Among all steps of a job.
 

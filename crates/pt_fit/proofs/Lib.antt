@@ -11,6 +11,7 @@ pub mod ObjectKinds
 pub mod Objects
 pub mod Setting
 pub mod Contents
+pub mod Xattrs
 pub mod Requests
 pub mod Fitting
 pub mod Edits

@@ -32,12 +32,10 @@ use Rattle.pt_frame.specs.Tree.{Bares, RequestTree, Shuts, on, go_on}
 use Rattle.pt_frame.specs.declared.act.ActReply.{ActReply}
 use Rattle.pt_frame.specs.declared.act.ActReply.TheVariants.{Event, Host}
 use Rattle.pt_frame.specs.declared.finish.Finish.TheVariants as finish
-use Rattle.pt_req.specs.Asker.{as_asker, asker_of}
-use Rattle.pt_req.specs.Creating.{FileAsked, if_same, labelled, made_file, make_file}
-use Rattle.pt_req.specs.Creating.{named_handle, new_file, old_file, takes_old}
+use Rattle.pt_req.specs.Asker.{as_asker, asker_of, umask_of, under_umask}
+use Rattle.pt_req.specs.Attributes.{Label, host_label}
 use Rattle.pt_req.specs.Options.{making_flags}
 use Rattle.pt_req.specs.Parts.{file_of, handled, look_up, named, open_num}
-use Rattle.pt_req.specs.Requests.{file_asked}
 use Rattle.pt_req.specs.Steps.{begin, began_in, is_there, made_in, make_at}
 use Rattle.pt_req.specs.Steps.{resolve, resolved_in, session_of, stat_in}
 use Rattle.pt_session.specs.declared.reply.Resolved.{Resolved}
@@ -49,9 +47,11 @@ use Rattle.pt_req.specs.declared.plan.Plan.{Plan}
 use Rattle.pt_job.specs.Pattern.{grammar_of}
 use Rattle.pt_law.specs.World.{fd_of, made}
 use Rattle.pt_fit.proofs.LookedUp.{IsLookedUp}
-use Rattle.pt_fit.proofs.Coming.{Comes, bare_comes, labelled_comes, taken_comes}
+use Rattle.pt_fit.proofs.Coming.{Comes, bare_comes, label_found, labelled_comes, taken_comes}
 use Rattle.pt_fit.proofs.Creating.{same_ids}
 use Rattle.pt_req.proofs.Flags.{creates, excludes}
+use Rattle.pt_attr.specs.Creating.{FileAsked, if_same, labelled, made_file, make_file, named_handle, new_file, old_file}
+use Rattle.pt_attr.specs.Creating.{takes_old, file_asked}
 use Rattle.pt_fit.proofs.Handling.{Inserted, InsertedNew, answers, each_join, inserted_by, inserted_new}
 use Rattle.pt_fit.proofs.Handling.{opened_num_along, same_along}
 use Rattle.pt_fit.proofs.Leading.{HasEntry, IsStill, Leads, given_none, goes_on}
@@ -125,10 +125,10 @@ record FoundOld
   makes_none : Each (λ (step : Step). MakesNone step.deed step.reply) front
   on : Leads seat (look_up plan session asked.parent asked.name (then_opened plan seat session asked)) rest last
 
-module _ (plan : Plan) (seat : HostSeat) (session : BegunSession) (asked : FileAsked) (last : Answer)
-    (p : HasEntry last) where
+module _ (plan : Plan) (seat : HostSeat) (session : BegunSession) (asked : FileAsked) (label : Option Label)
+    (last : Answer) (p : HasEntry last) where
   abbrev new_tree : Fd → Fd → RequestTree
-  new_tree dir fd = new_file plan session asked dir fd (answers plan)
+  new_tree dir fd = new_file plan session asked label dir fd (answers plan)
 
   abbrev Ways : List Step → Type 0
   Ways steps = MadeNew plan seat session asked last steps ⊎ FoundOld plan seat session asked last steps
@@ -140,10 +140,10 @@ module _ (plan : Plan) (seat : HostSeat) (session : BegunSession) (asked : FileA
       let looking : Stat → RequestTree =
       λ stat. look_up plan session asked.parent asked.name (then_handled plan session fd stat) in
       let behind : Stat → RequestTree =
-      λ stat. labelled session fd (call.Unlink dir asked.name) asked.ext.secctx (looking stat) in
+      λ stat. labelled fd (call.Unlink dir asked.name) label (looking stat) in
       let s = goes_on seat (Calls (call.Stat fd)) (on stat_in behind) c.rest last refl (λ t. refl) p c.on in
       let was = stated seat behind s.told s.rest last p s.on in
-      let l = labelled_comes seat last p session fd dir asked.name (looking was.0) asked.ext.secctx s.rest was.2 in
+      let l = labelled_comes seat last p fd dir asked.name (looking was.0) label s.rest was.2 in
       record {
         stat = was.0;
         to_stat = c.front;
@@ -156,7 +156,7 @@ module _ (plan : Plan) (seat : HostSeat) (session : BegunSession) (asked : FileA
       }
 
   abbrev file_made : Fd → Made → RequestTree
-  file_made dir it = made_file plan seat session asked dir it (answers plan)
+  file_made dir it = made_file plan seat session asked label dir it (answers plan)
 
   old_found : (dir : Fd) (did : Option Deed) (told : ActReply) (there : Bool) (rest : List Step) →
       MakesNone did told →
@@ -240,26 +240,27 @@ module _ (plan : Plan) (seat : HostSeat) (session : BegunSession) (asked : FileA
         })
       ]
 
-  asker_found : (asker : Option Credentials) (dir : Fd) (steps : List Step) →
-      Leads seat (as_asker seat asker
-      (make_at dir asked.name (making_flags asked.flags) asked.mode (takes_old asked.flags) (file_made dir))) steps
+  asker_found : (asker : Option Credentials) (umask : Option ℕ) (dir : Fd) (steps : List Step) →
+      Leads seat (as_asker seat asker (under_umask umask
+      (make_at dir asked.name (making_flags asked.flags) asked.mode (takes_old asked.flags) (file_made dir)))) steps
       last → Ways steps
-  asker_found None dir steps l =
+  asker_found None umask dir steps l =
       let no : passes_with (answer.Refused eperm) ≡ true =
       ap passes_with (sym (given_none seat (answer.Refused eperm) last steps p l)) ∙ p in absurd (cc)
-  asker_found (Some creds) dir steps l =
-      making_found dir steps (taken_comes seat last p (cred_steps creds seat)
+  asker_found (Some creds) umask dir steps l =
+      making_found dir steps (taken_comes seat last p (cred_steps creds seat) umask
       (make_at dir asked.name (making_flags asked.flags) asked.mode (takes_old asked.flags) (file_made dir)) steps l)
 
-module _ (plan : Plan) (seat : HostSeat) (session : BegunSession) (asked : FileAsked) (last : Answer)
-    (p : HasEntry last) where
+module _ (plan : Plan) (seat : HostSeat) (session : BegunSession) (asked : FileAsked) (label : Option Label)
+    (last : Answer) (p : HasEntry last) where
   -- so it is of the request
   file_found : (dir : Fd) (steps : List Step) →
-      Leads seat (make_file plan seat session asked dir (answers plan)) steps last →
-      Ways plan seat session asked last p steps
+      Leads seat (make_file plan seat session asked label dir (answers plan)) steps last →
+      Ways plan seat session asked label last p steps
   unfolding make_file
   file_found dir steps l =
-      asker_found plan seat session asked last p (asker_of plan session asked.who asked.ext.sup_gid) dir steps l
+      asker_found plan seat session asked label last p (asker_of plan session asked.who asked.ext.sup_gid)
+      (umask_of session (Some asked.umask)) dir steps l
 
 -- The file was made by these steps before the lookup, and behind it got the handle; what was looked up has its ids.
 pub record NewWay
@@ -414,21 +415,22 @@ created_parts plan seat who parent name mode kill flags umask ext entry handle o
     last = answer.Created entry handle options
 
     file : FileAsked
-    file = file_asked who parent name mode kill flags ext
+    file = file_asked who parent name mode kill flags umask ext
 
     -- what follows the directory
-    in_dir : BegunSession → Fd → RequestTree
-    in_dir session dir = make_file plan seat session file dir (answers plan)
+    in_dir : BegunSession → Option Label → Fd → RequestTree
+    in_dir session label dir = make_file plan seat session file label dir (answers plan)
 
     in_parent : BegunSession → Resolved → RequestTree
-    in_parent session directory = file_of directory.form (in_dir session)
+    in_parent session directory =
+        host_label plan session.agreed ext.secctx (λ label. file_of directory.form (in_dir session label))
 
-    dir_found : (session : BegunSession) (row : Resolved) (rest : List Step) →
+    dir_found : (session : BegunSession) (label : Option Label) (row : Resolved) (rest : List Step) →
         steps ≡ made (Changes change.Begin) (Event (event.Began session.era session.agreed))
         ∷ resolving parent row ∷ rest →
-        Leads seat (in_dir session (fd_of row.form)) rest last → CreatedBy plan parent name entry handle steps
-    dir_found session row rest e l =
-        elim (file_found plan seat session file last refl (fd_of row.form) rest l) [
+        Leads seat (in_dir session label (fd_of row.form)) rest last → CreatedBy plan parent name entry handle steps
+    dir_found session label row rest e l =
+        elim (file_found plan seat session file label last refl (fd_of row.form) rest l) [
           | inl n ↦ new_created plan seat session file entry handle options row steps rest e n
           | inr o ↦ old_created plan seat session file entry handle options row steps rest e o
         ]
@@ -447,5 +449,6 @@ created_parts plan seat who parent name mode kill flags umask ext entry handle o
         (none_told asks (λ t. refl)) refl
         (good_named seat name (resolve parent (in_parent this)) g.rest last refl k.3) in
         let d = resolved seat (in_parent this) r.told r.rest last refl r.on in
-        dir_found this d.0 r.rest (then_step g.are k.2 (then_step r.are d.1 refl))
-        (filed seat d.0.form (in_dir this) r.rest last d.2)
+        let c = label_found seat r.rest last plan this.agreed ext.secctx _ d.2 in
+        dir_found this c.0 d.0 r.rest (then_step g.are k.2 (then_step r.are d.1 refl))
+        (filed seat d.0.form (in_dir this c.0) r.rest last c.1)

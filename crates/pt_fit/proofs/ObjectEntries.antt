@@ -1,9 +1,10 @@
 -- The making of an object under a name that is answered with an entry came to it by a lookup of that name.
-use Rattle.std.proofs.Common.{◌≡◌, ◌++◌, ◌∷◌, ◌∙◌, [], if◌then◌else◌, ℕ, Bool, true, false, List, Option, Some, None}
-use Rattle.std.proofs.Common.{Result, ap, append_assoc, refl, subst, sym}
+use Rattle.std.proofs.Common.{◌≡◌, ◌++◌, ◌∷◌, ◌∙◌, [], ℕ, true, false, List, Option, Some, None}
+use Rattle.std.proofs.Common.{Err, Ok, Result, ap, append_assoc, refl, subst, sym}
 use Rattle.std.specs.List.{list_any}
 use Rattle.pt_host.specs.Call.{Call}
-use Rattle.pt_host.specs.Errno.{eopnotsupp, eperm}
+use Rattle.pt_host.specs.Errno.{eperm}
+use Rattle.pt_host.specs.declared.ids.Errno.{Errno}
 use Rattle.pt_host.specs.declared.ids.Fd.{Fd}
 use Rattle.pt_host.specs.declared.op.KeptHostOp.TheVariants as call
 use Rattle.pt_host.specs.declared.reply.HostReply.TheVariants as host
@@ -17,7 +18,6 @@ use Rattle.pt_session.specs.declared.reply.EventReply.TheVariants as event
 use Rattle.pt_iface.specs.declared.answer.Answer.{Answer}
 use Rattle.pt_iface.specs.declared.answer.Answer.TheVariants as answer
 use Rattle.pt_iface.specs.declared.entry.Entry.{Entry}
-use Rattle.pt_iface.specs.declared.request.SecContext.{SecContext}
 use Rattle.pt_frame.specs.Deed.{Calls, Changes, Step}
 use Rattle.pt_frame.specs.Grammar.{Belongs}
 use Rattle.pt_frame.specs.Replies.{passes_with}
@@ -25,9 +25,8 @@ use Rattle.pt_frame.specs.Tree.{Asks, Bares, Gives, RequestTree, Shuts, grammar_
 use Rattle.pt_frame.specs.declared.act.ActReply.{ActReply}
 use Rattle.pt_frame.specs.declared.act.ActReply.TheVariants.{Event, Host, NoCopy}
 use Rattle.pt_frame.specs.declared.finish.Finish.TheVariants as finish
-use Rattle.pt_req.specs.Asker.{as_asker, asker_of}
-use Rattle.pt_req.specs.Attributes.{is_blocked}
-use Rattle.pt_req.specs.Creating.{undone}
+use Rattle.pt_req.specs.Asker.{as_asker, asker_of, umask_of, under_umask}
+use Rattle.pt_req.specs.Attributes.{Label, host_label}
 use Rattle.pt_req.specs.Parts.{by_path, file_of, look_up, named}
 use Rattle.pt_req.specs.Steps.{begin, began_in, ok_in, or_refused, refused_in, resolve, resolved_in, session_of}
 use Rattle.pt_req.specs.Steps.{set_xattr, tried_in}
@@ -35,14 +34,15 @@ use Rattle.pt_session.specs.declared.reply.Resolved.{Resolved}
 use Rattle.pt_req.specs.declared.begun.BegunSession.{BegunSession}
 use Rattle.pt_req.specs.declared.parts.looked.Looked.{Looked}
 use Rattle.pt_req.specs.declared.plan.Plan.{Plan}
-use Rattle.pt_attr.specs.Making.{ObjectAsked, is_nul, kept_at, label_at, labelled_at, make_object, set_opened}
+use Rattle.pt_attr.specs.Creating.{undone}
+use Rattle.pt_attr.specs.Making.{ObjectAsked, is_nul, label_at, labelled_at, make_object, set_opened}
 use Rattle.pt_attr.specs.Making.{targeted}
 use Rattle.pt_attr.specs.Steps.{make, opened_in, try_open_at}
 use Rattle.pt_law.specs.World.{fd_of, made}
 use Rattle.pt_fit.proofs.LookedUp.{IsLookedUp}
 use Rattle.pt_fit.proofs.ObjectKinds.{Kind, Directory, Link, Node, make_kind, make_named, making_call, targeted_as}
 use Rattle.pt_fit.proofs.ObjectKinds.{unmaking_call}
-use Rattle.pt_fit.proofs.Coming.{bare_comes, set_on, taken_comes, tried_on}
+use Rattle.pt_fit.proofs.Coming.{bare_comes, label_found, set_on, taken_comes, tried_on}
 use Rattle.pt_fit.proofs.Leading.{HasEntry, Leads, given_none, goes_on, in_bracket, none_told, refused_none, replied}
 use Rattle.pt_fit.proofs.Leading.{shut_gives, shut_none, shuts_on}
 use Rattle.pt_host.specs.Words.{Each}
@@ -141,26 +141,17 @@ module _ (seat : HostSeat) (last : Answer) (p : HasEntry last) where
         calls_reach next (call.OpenAt dir name by_path 0) (on opened_in (sets attribute bytes)) steps
         (opened_told attribute bytes) l
 
-    label_reaches : (dir : Fd) (name : List ℕ) (label : SecContext) (bad : Bool) (steps : List Step) →
-        Leads seat (if bad then undone undoing (answer.Refused eopnotsupp)
-        else kept_at dir name undoing label.name label.value next) steps last → Reaches seat last next steps
-    label_reaches dir name label true steps m = absurd (undone_none undoing (answer.Refused eopnotsupp) refl steps m)
-    label_reaches dir name label false steps m =
-        opened_reaches dir name label.name label.value steps
-        (in_bracket seat (try_open_at dir name by_path (sets label.name label.value)) steps last m)
+    label_reaches : (dir : Fd) (name bytes : List ℕ) (attribute : Result (List ℕ) Errno) (steps : List Step) →
+        Leads seat (label_at dir name undoing bytes attribute next) steps last → Reaches seat last next steps
+    label_reaches dir name bytes (Err errno) steps m = absurd (undone_none undoing (answer.Refused errno) refl steps m)
+    label_reaches dir name bytes (Ok attribute) steps m =
+        opened_reaches dir name attribute bytes steps
+        (in_bracket seat (try_open_at dir name by_path (sets attribute bytes)) steps last m)
 
-    label_set_reaches : (session : BegunSession) (dir : Fd) (name : List ℕ) (label : SecContext)
-        (steps : List Step) → Leads seat (label_at session dir name undoing label next) steps last →
-        Reaches seat last next steps
-    unfolding label_at
-    label_set_reaches session dir name label steps l =
-        label_reaches dir name label (is_blocked session.agreed label.name) steps l
-
-    labelled_reaches : (session : BegunSession) (dir : Fd) (name : List ℕ) (label : Option SecContext)
-        (steps : List Step) → Leads seat (labelled_at session dir name undoing label next) steps last →
-        Reaches seat last next steps
-    labelled_reaches session dir name None steps l = reaches_now next steps l
-    labelled_reaches session dir name (Some label) steps l = label_set_reaches session dir name label steps l
+    labelled_reaches : (dir : Fd) (name : List ℕ) (label : Option Label) (steps : List Step) →
+        Leads seat (labelled_at dir name undoing label next) steps last → Reaches seat last next steps
+    labelled_reaches dir name None steps l = reaches_now next steps l
+    labelled_reaches dir name (Some label) steps l = label_reaches dir name label.value label.name steps l
 
   -- the object was made, and the scopes ended
   made_reaches : (making : Call) (next : RequestTree) (steps : List Step) →
@@ -172,30 +163,31 @@ module _ (seat : HostSeat) (last : Answer) (p : HasEntry last) where
       (reaches_now next b.rest (set_on seat last p next told b.rest b.on))) l
 
   -- as whoever asks
-  asker_reaches : (asker : Option Credentials) (making : Call) (next : RequestTree) (steps : List Step) →
-      Leads seat (as_asker seat asker (make making next)) steps last → Reaches seat last next steps
-  asker_reaches None making next steps l =
+  asker_reaches : (asker : Option Credentials) (umask : Option ℕ) (making : Call) (next : RequestTree)
+      (steps : List Step) → Leads seat (as_asker seat asker (under_umask umask (make making next))) steps last →
+      Reaches seat last next steps
+  asker_reaches None umask making next steps l =
       let no : passes_with (answer.Refused eperm) ≡ true =
       ap passes_with (sym (given_none seat (answer.Refused eperm) last steps p l)) ∙ p in absurd (cc)
-  asker_reaches (Some creds) making next steps l =
-      let t = taken_comes seat last p (cred_steps creds seat) (make making next) steps l in
+  asker_reaches (Some creds) umask making next steps l =
+      let t = taken_comes seat last p (cred_steps creds seat) umask (make making next) steps l in
       reaches_behind next steps t.front t.rest t.are (made_reaches making next t.rest t.on)
 
 -- in its directory it came to a lookup of its name
-kind_reaches : (plan : Plan) (seat : HostSeat) (session : BegunSession) (object : ObjectAsked) (its : Kind) (dir : Fd)
-    (last : Answer) (p : HasEntry last) (steps : List Step) →
-    Leads seat (make_kind plan seat session object its dir) steps last →
+kind_reaches : (plan : Plan) (seat : HostSeat) (session : BegunSession) (object : ObjectAsked) (its : Kind)
+    (label : Option Label) (dir : Fd) (last : Answer) (p : HasEntry last) (steps : List Step) →
+    Leads seat (make_kind plan seat session object its label dir) steps last →
     Reaches seat last (look_up plan session object.parent object.name (λ looked. Gives (answer.Entry looked.entry)))
     steps
 unfolding make_object
-kind_reaches plan seat session object its dir last p steps l =
+kind_reaches plan seat session object its label dir last p steps l =
     let looking : RequestTree = look_up plan session object.parent object.name (λ looked.
     Gives (answer.Entry looked.entry)) in
     let undoing = unmaking_call its dir object.name in
     let m = asker_reaches seat last p (asker_of plan session object.who object.ext.sup_gid)
-    (making_call its dir object.name) (labelled_at session dir object.name undoing object.ext.secctx looking) steps l
-    in
-    let k = labelled_reaches seat last p undoing looking session dir object.name object.ext.secctx m.rest m.on in
+    (umask_of session object.umask)
+    (making_call its dir object.name) (labelled_at dir object.name undoing label looking) steps l in
+    let k = labelled_reaches seat last p undoing looking dir object.name label m.rest m.on in
     reaches_behind seat last p looking steps m.front m.rest m.are k
 
 target_good : (seat : HostSeat) (its : Kind) (next : RequestTree) (steps : List Step) (last : Answer) →
@@ -225,11 +217,12 @@ made_by plan seat object its entry steps b = found (record { holds = []; marks =
     looking : BegunSession → RequestTree
     looking session = look_up plan session object.parent object.name answers
 
-    in_dir : BegunSession → Fd → RequestTree
-    in_dir session dir = make_kind plan seat session object its dir
+    in_dir : BegunSession → Option Label → Fd → RequestTree
+    in_dir session label dir = make_kind plan seat session object its label dir
 
     in_parent : BegunSession → Resolved → RequestTree
-    in_parent session directory = file_of directory.form (in_dir session)
+    in_parent session directory =
+        host_label plan session.agreed object.ext.secctx (λ label. file_of directory.form (in_dir session label))
 
     Found : Type 0
     Found = (era : ℕ) × (agreed : Negotiated) × (front : List Step) × (own : List Step) × (back : List Step)
@@ -259,12 +252,12 @@ made_by plan seat object its entry steps b = found (record { holds = []; marks =
           shut_gives seat (answer.Entry f.looked.entry) last f.rest refl f.on,
         )
 
-    dir_found : (session : BegunSession) (row : Resolved) (rest : List Step) →
+    dir_found : (session : BegunSession) (label : Option Label) (row : Resolved) (rest : List Step) →
         steps ≡ made (Changes change.Begin) (Event (event.Began session.era session.agreed))
         ∷ resolving object.parent row ∷ rest →
-        Leads seat (in_dir session (fd_of row.form)) rest last → Found
-    dir_found session row rest e l =
-        let r = kind_reaches plan seat session object its (fd_of row.form) last refl rest l in
+        Leads seat (in_dir session label (fd_of row.form)) rest last → Found
+    dir_found session label row rest e l =
+        let r = kind_reaches plan seat session object its label (fd_of row.form) last refl rest l in
         let a = resolving object.parent row in
         let begun = made (Changes change.Begin) (Event (event.Began session.era session.agreed)) in
         looked session (a ∷ r.front) r.rest (e ∙ ap (λ (z : List Step). begun ∷ a ∷ z) r.are) r.on
@@ -285,5 +278,6 @@ made_by plan seat object its entry steps b = found (record { holds = []; marks =
         (target_good seat its tree g.rest last refl
         (good_named seat object.name (targeted_as its tree) g.rest last refl k.3)) in
         let d = resolved seat (in_parent this) r.told r.rest last refl r.on in
-        dir_found this d.0 r.rest (then_step g.are k.2 (then_step r.are d.1 refl))
-        (filed seat d.0.form (in_dir this) r.rest last d.2)
+        let c = label_found seat r.rest last plan this.agreed object.ext.secctx _ d.2 in
+        dir_found this c.0 d.0 r.rest (then_step g.are k.2 (then_step r.are d.1 refl))
+        (filed seat d.0.form (in_dir this c.0) r.rest last c.1)

@@ -1,16 +1,17 @@
 -- The objects that are made under a name, by their kinds: what they have in common.
-use Rattle.std.proofs.Common.{ℕ, Bool, false, List}
+use Rattle.std.proofs.Common.{ℕ, Bool, false, List, Option}
 use Rattle.std.specs.List.{list_any}
 use Rattle.pt_host.specs.Call.{Call}
 use Rattle.pt_host.specs.declared.ids.Fd.{Fd}
 use Rattle.pt_host.specs.declared.op.KeptHostOp.TheVariants as call
 use Rattle.pt_host.specs.declared.seat.HostSeat.{HostSeat}
 use Rattle.pt_frame.specs.Tree.{RequestTree}
-use Rattle.pt_req.specs.Parts.{named}
+use Rattle.pt_req.specs.Attributes.{Label, host_label}
+use Rattle.pt_req.specs.Parts.{file_of, named}
+use Rattle.pt_req.specs.Steps.{resolve}
 use Rattle.pt_req.specs.declared.begun.BegunSession.{BegunSession}
 use Rattle.pt_req.specs.declared.plan.Plan.{Plan}
 use Rattle.pt_attr.specs.Making.{ObjectAsked, is_nul, make_object, targeted}
-use Rattle.pt_attr.specs.Parts.{file_by}
 
 pub data Kind : Type 0 where
   Directory : ℕ → Kind
@@ -40,11 +41,13 @@ targeted_as (Directory mode) next = next
 targeted_as (Node mode rdev) next = next
 targeted_as (Link target) next = targeted target next
 
-abbrev pub make_kind : Plan → HostSeat → BegunSession → ObjectAsked → Kind → Fd → RequestTree
-make_kind plan seat session asked kind dir =
-    make_object plan seat session asked dir (making_call kind dir asked.name) (unmaking_call kind dir asked.name)
+abbrev pub make_kind : Plan → HostSeat → BegunSession → ObjectAsked → Kind → Option Label → Fd → RequestTree
+make_kind plan seat session asked kind label dir =
+    make_object plan seat session asked label dir (making_call kind dir asked.name) (unmaking_call kind dir asked.name)
 
 -- its name and its target are checked first, in this order
 abbrev pub make_named : Plan → HostSeat → ObjectAsked → Kind → BegunSession → RequestTree
 make_named plan seat asked kind session =
-    named asked.name (targeted_as kind (file_by asked.parent (make_kind plan seat session asked kind)))
+    named asked.name (targeted_as kind (resolve asked.parent (λ row.
+    host_label plan session.agreed asked.ext.secctx (λ label.
+    file_of row.form (make_kind plan seat session asked kind label)))))

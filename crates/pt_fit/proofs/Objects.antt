@@ -1,9 +1,9 @@
 -- The making of an object under a name is fit: as whoever asks it is made, gets its context, and is looked up.
-use Rattle.std.proofs.Common.{◌≡◌, ◌++◌, ◌∷◌, ◌∙◌, [], if◌then◌else◌, inl, inr, ℕ, Bool, true, false, List, None}
-use Rattle.std.proofs.Common.{Option, Some, length, refl, subst, sym}
+use Rattle.std.proofs.Common.{◌≡◌, ◌++◌, ◌∷◌, ◌∙◌, [], inl, inr, ℕ, false, true, List, None}
+use Rattle.std.proofs.Common.{Option, Some, Result, Ok, Err, length, refl, subst, sym}
 use Rattle.std.specs.List.{list_any}
 use Rattle.pt_host.specs.Call.{Call}
-use Rattle.pt_host.specs.Errno.{einval, eopnotsupp, eperm}
+use Rattle.pt_host.specs.Errno.{einval, eperm}
 use Rattle.pt_host.specs.Words.{Takes.{here}}
 use Rattle.pt_host.specs.declared.ids.Errno.{Errno}
 use Rattle.pt_host.specs.declared.ids.Fd.{Fd}
@@ -17,34 +17,34 @@ use Rattle.pt_iface.specs.declared.answer.Answer.TheVariants as answer
 use Rattle.pt_iface.specs.declared.entry.Entry.{Entry}
 use Rattle.pt_iface.specs.declared.request.Context.{Context}
 use Rattle.pt_iface.specs.declared.request.Request.{Request}
-use Rattle.pt_iface.specs.declared.request.SecContext.{SecContext}
 use Rattle.pt_frame.specs.Deed.{Calls, Step}
 use Rattle.pt_frame.specs.Tree.{Bares, Gives, RequestTree, Shuts, on, go_on}
 use Rattle.pt_frame.specs.declared.act.ActReply.{ActReply}
 use Rattle.pt_frame.specs.declared.act.ActReply.TheVariants.{Event, Host, NoCopy}
 use Rattle.pt_frame.specs.declared.hold.Hold.{Hold}
 use Rattle.pt_frame.specs.declared.hold.Hold.TheVariants as hold
-use Rattle.pt_req.specs.Asker.{asker_of}
-use Rattle.pt_req.specs.Attributes.{is_blocked}
-use Rattle.pt_req.specs.Creating.{undone}
+use Rattle.pt_req.specs.Asker.{asker_of, umask_of}
+use Rattle.pt_req.specs.Attributes.{Label, refused_label}
 use Rattle.pt_req.specs.Entries.{is_bad_name}
 use Rattle.pt_req.specs.Parts.{by_path}
 use Rattle.pt_req.specs.Steps.{begin, ok_in, or_refused, set_xattr}
 use Rattle.pt_req.specs.declared.begun.BegunSession.{BegunSession}
 use Rattle.pt_req.specs.declared.plan.Plan.{Plan}
-use Rattle.pt_attr.specs.Making.{ObjectAsked, kept_at, label_at, labelled_at, make_object, set_opened, targeted}
+use Rattle.pt_attr.specs.Creating.{undone}
+use Rattle.pt_attr.specs.Making.{ObjectAsked, label_at, labelled_at, make_object, set_opened, targeted}
 use Rattle.pt_attr.specs.Making.{is_nul}
 use Rattle.pt_attr.specs.Steps.{make, try_open_at}
 use Rattle.pt_law.specs.Discipline.{KnowsAll, Notes, blank}
 use Rattle.pt_law.specs.Keeps.{Lasts, unscoped}
 use Rattle.pt_law.specs.Told.{MayBeTold}
-use Rattle.pt_fit.specs.Cause.{Asking, BlocksLabel, IsBlockedLabel, OwnCause, SomeShows, asking, caused}
+use Rattle.pt_fit.specs.Cause.{Asking, OwnCause, SomeShows, asking, caused, name_refused}
 use Rattle.pt_fit.specs.Fit.{Fit, MayAnswer}
 use Rattle.pt_fit.proofs.ObjectKinds.{Kind, Directory, Node, Link, is_bad_target, make_kind, make_named, making_call}
 use Rattle.pt_fit.proofs.ObjectKinds.{targeted_as, unmaking_call}
-use Rattle.pt_fit.proofs.Creating.{covers_none, fit_as_asker}
+use Rattle.pt_fit.proofs.Creating.{covers_none, fit_as_asker, fit_umask}
 use Rattle.pt_fit.proofs.Holds.{down_over, nothing_bare}
 use Rattle.pt_fit.proofs.Joined.{after_any_step, fit_gives, fit_look_up}
+use Rattle.pt_fit.proofs.Labelling.{FailsBy, fit_host_label}
 use Rattle.pt_fit.proofs.Parts.{FitOn, Seen, Told, Agreed, blocked_by, fit_begin, fit_checked, fit_file_of, fit_name}
 use Rattle.pt_fit.proofs.Parts.{fit_resolve, still}
 use Rattle.pt_fit.proofs.Scopes.{Covers}
@@ -173,7 +173,7 @@ module _ (asked : Asking) (marks : List ℕ) (row : ℕ) (dir : Fd) (name : List
       shut_so asked (undone (unmaking_call what dir name) answer.NoMemory) front (pinned row dir) marks these path
       (λ later l. fit_out asked (pinned row dir) marks dir name (knows row dir) what later path)
 
-module _ (asked : Asking) (seen : List Seen) (marks : List ℕ) (notes : Notes) (session : BegunSession)
+module _ (asked : Asking) (seen : List Seen) (marks : List ℕ) (notes : Notes)
     (row number : ℕ) (dir : Fd) (name : List ℕ) (what : Kind) (next : RequestTree)
     (f : (later : Notes) → later.era ≡ notes.era → later.brought ≡ None →
     FitOn asked seen next (pinned row dir) marks later) where
@@ -233,56 +233,47 @@ module _ (asked : Asking) (seen : List Seen) (marks : List ℕ) (notes : Notes) 
       opening : ActReply → Step
       opening told = step_made (Calls (call.OpenAt dir name by_path 0)) told
 
-  fit_label_at : (brought : SecContext) → notes.resolved ≡ Some (record { number = number; row = row }) →
-      (is_blocked session.agreed brought.name ≡ true → (path : List Step) → Told seen path →
-      SomeShows asked path eopnotsupp) →
-      FitOn asked seen (label_at session dir name (unmaking_call what dir name) brought next) (pinned row dir) marks
+  fit_label_at : (value : List ℕ) (attribute : Result (List ℕ) Errno) →
+      notes.resolved ≡ Some (record { number = number; row = row }) →
+      ((errno : Errno) → attribute ≡ Err errno → (path : List Step) → Told seen path → SomeShows asked path errno) →
+      FitOn asked seen (label_at dir name (unmaking_call what dir name) value attribute next) (pinned row dir) marks
       notes
-  unfolding label_at
-  fit_label_at brought r c = go (is_blocked session.agreed brought.name) refl
-    where
-      go : (bad : Bool) → is_blocked session.agreed brought.name ≡ bad →
-          FitOn asked seen (if bad then undone (unmaking_call what dir name) (answer.Refused eopnotsupp)
-          else kept_at dir name (unmaking_call what dir name) brought.name brought.value next)
-          (pinned row dir) marks notes
-      go true e = record {
-        on = λ path s. fit_refused asked (pinned row dir) marks dir name (knows row dir) what eopnotsupp notes path
-            (c e path s);
-      }
-      go false e = record { on = (fit_opened brought.name brought.value r).on }
+  fit_label_at value (Err errno) r c = record {
+    on = λ path s. fit_refused asked (pinned row dir) marks dir name (knows row dir) what errno notes path
+        (c errno refl path s);
+  }
+  fit_label_at value (Ok attribute) r c = record { on = (fit_opened attribute value r).on }
 
-  fit_labelled_at : (label : Option SecContext) → notes.resolved ≡ Some (record { number = number; row = row }) →
+  fit_labelled_at : (label : Option Label) → notes.resolved ≡ Some (record { number = number; row = row }) →
       notes.brought ≡ None →
-      ((brought : SecContext) → label ≡ Some brought → is_blocked session.agreed brought.name ≡ true →
-      (path : List Step) → Told seen path → SomeShows asked path eopnotsupp) →
-      FitOn asked seen (labelled_at session dir name (unmaking_call what dir name) label next) (pinned row dir) marks
-      notes
+      ((errno : Errno) → FailsBy label errno → (path : List Step) → Told seen path → SomeShows asked path errno) →
+      FitOn asked seen (labelled_at dir name (unmaking_call what dir name) label next) (pinned row dir) marks notes
   fit_labelled_at None r n c = f notes refl n
-  fit_labelled_at (Some brought) r n c = fit_label_at brought r (c brought refl)
+  fit_labelled_at (Some label) r n c = fit_label_at label.value label.name r c
 
 -- as whoever asks, in a directory that was resolved
 fit_kind : {marks : List ℕ} {notes : Notes} (plan : Plan) (seat : HostSeat) (who : Context) (what : Request)
-    (session : BegunSession) (object : ObjectAsked) (its : Kind) (row : ℕ) (dir : Fd) →
+    (session : BegunSession) (object : ObjectAsked) (its : Kind) (label : Option Label) (row : ℕ) (dir : Fd) →
+    ((errno : Errno) → FailsBy label errno → name_refused plan session.agreed what ≡ Some errno) →
     notes.era ≡ Some session.era → notes.brought ≡ None →
     notes.resolved ≡ Some (record { number = object.parent; row = row }) →
     (asker_of plan session object.who object.ext.sup_gid ≡ None → OwnCause plan who what eperm) →
-    ((agreed : Negotiated) → IsBlockedLabel agreed object.ext.secctx → BlocksLabel agreed what) →
     ((entry : Entry) → MayAnswer (answer.Entry entry) what) →
-    FitOn (asking plan who what) (Agreed session.agreed ∷ []) (make_kind plan seat session object its dir)
+    FitOn (asking plan who what) (Agreed session.agreed ∷ []) (make_kind plan seat session object its label dir)
     (pinned row dir) marks notes
 unfolding make_object
-fit_kind plan seat who what session object its row dir era none resolved forbids blocks answers =
+fit_kind plan seat who what session object its label row dir fails era none resolved forbids answers =
     fit_as_asker _
+    (fit_umask _
     (λ holds c. fit_make holds [] row dir object.name _ c
-    (fit_labelled_at _ _ _ _ session row object.parent dir object.name its _
+    (fit_labelled_at _ _ _ _ row object.parent dir object.name its _
     (λ later same none.
     fit_look_up plan session object.parent object.name _ (λ one. refl) (same ∙ era) none (λ looked found last l.
     fit_gives (answer.Entry looked.entry) (λ path. (refl, tt, answers looked.entry))))
-    object.ext.secctx resolved none
-    (λ brought is bad path s. blocked_by (asking plan who what) path session.agreed
-    (blocks session.agreed (subst (λ (label : Option SecContext). IsBlockedLabel session.agreed label) (sym is) bad))
-    s.each.0))
+    label resolved none
+    (λ errno failed path s. blocked_by (asking plan who what) path session.agreed errno (fails errno failed) s.each.0))
     its)
+    (umask_of session object.umask))
     seat (asker_of plan session object.who object.ext.sup_gid) _ (covers_none row dir) forbids
 
 fit_target : {asked : Asking} {seen : List Seen} {holds : List Hold} {marks : List ℕ} {notes : Notes} (its : Kind)
@@ -299,12 +290,16 @@ pub fit_named : (plan : Plan) (seat : HostSeat) (who : Context) (what : Request)
     (is_bad_target its ≡ true → OwnCause plan who what einval) →
     ((session : BegunSession) → asker_of plan session object.who object.ext.sup_gid ≡ None →
     OwnCause plan who what eperm) →
-    ((agreed : Negotiated) → IsBlockedLabel agreed object.ext.secctx → BlocksLabel agreed what) →
+    ((agreed : Negotiated) → refused_label plan agreed object.ext.secctx ≡ name_refused plan agreed what) →
     ((entry : Entry) → MayAnswer (answer.Entry entry) what) →
     FitOn (asking plan who what) [] (begin (make_named plan seat object its)) [] [] blank
-fit_named plan seat who what object its misnamed mistargeted forbids blocks answers =
+fit_named plan seat who what object its misnamed mistargeted forbids refuses answers =
     fit_begin _ refl (λ session.
     fit_name object.name _ misnamed (
     fit_target its _ mistargeted (
-    fit_resolve object.parent _ nothing_bare (λ row. after_any_step (fit_file_of row.row row.form _ (λ dir.
-    fit_kind plan seat who what session object its row.row dir refl refl refl (forbids session) blocks answers))))))
+    fit_resolve object.parent _ nothing_bare (λ row. after_any_step (
+    fit_host_label plan session.agreed object.ext.secctx _ (λ label fails.
+    fit_file_of row.row row.form _ (λ dir.
+    fit_kind plan seat who what session object its label row.row dir
+    (λ errno failed. sym (refuses session.agreed) ∙ fails errno failed) refl refl refl (forbids session)
+    answers)))))))

@@ -3,7 +3,7 @@ use Rattle.std.proofs.Common.{◌≡◌, inl, inr, ℕ, List, [], ◌∷◌, ◌
 use Rattle.std.proofs.Common.{◌⊎◌, sym}
 use Rattle.std.proofs.Common.{◌∙◌, subst, if◌then◌else◌, length}
 use Rattle.pt_host.specs.Words.{Each, Takes.{here, there}}
-use Rattle.pt_host.specs.Errno.{einval, eopnotsupp}
+use Rattle.pt_host.specs.Errno.{einval}
 use Rattle.pt_host.specs.declared.ids.Errno.{Errno}
 use Rattle.pt_host.specs.declared.ids.Fd.{Fd}
 use Rattle.pt_host.specs.declared.ids.ObjIds.{ObjIds}
@@ -36,7 +36,7 @@ use Rattle.pt_law.specs.Discipline.{Notes, with_root, unnoted, found_by, given_f
 use Rattle.pt_law.specs.Discipline.{at_job, newly, told_as, told_of}
 use Rattle.pt_law.specs.Keeps.{Lasts, LiesOnSlot.{here as lies, there as under}, down_to}
 use Rattle.pt_law.proofs.Sounds.{after_any}
-use Rattle.pt_fit.specs.Cause.{Asking, BlocksLabel, OpensOn, OwnCause, Shows, SomeShows, WasTold, caused}
+use Rattle.pt_fit.specs.Cause.{Asking, OpensOn, OwnCause, Shows, SomeShows, WasTold, caused, name_refused}
 use Rattle.pt_fit.specs.Fit.{Fit}
 use Rattle.pt_fit.proofs.Holds.{IsBare, handed_top, down_over, over, laid_over, unscoped_over}
 use Rattle.pt_fit.proofs.Refused.{refused_by}
@@ -103,15 +103,15 @@ began_with {seen = seen} {path = path} era agreed t =
     let step = made (Changes change.Begin) (Event (event.Began era agreed)) in
     record { each = (inl (refl, (era, refl)), told_still step path seen t.each) }
 
--- what was agreed on so is the cause that a context is refused
-pub blocked_by : (asked : Asking) (path : List Step) (agreed : Negotiated) → BlocksLabel agreed asked.request →
-    SomeBegins path agreed → SomeShows asked path eopnotsupp
-blocked_by asked [] agreed blocks s = absurd s
-blocked_by asked (step ∷ path) agreed blocks (inl begun) =
-    inl (subst (λ (deed : Option Deed). Shows asked deed step.reply eopnotsupp) (sym begun.0)
-    (subst (λ (told : ActReply). Shows asked (Some (Changes change.Begin)) told eopnotsupp) (sym begun.1.1)
-    (blocks, refl)))
-blocked_by asked (step ∷ path) agreed blocks (inr later) = inr (blocked_by asked path agreed blocks later)
+-- what was agreed on so is the cause that a name is refused
+pub blocked_by : (asked : Asking) (path : List Step) (agreed : Negotiated) (errno : Errno) →
+    name_refused asked.plan agreed asked.request ≡ Some errno → SomeBegins path agreed → SomeShows asked path errno
+blocked_by asked [] agreed errno refuses s = absurd s
+blocked_by asked (step ∷ path) agreed errno refuses (inl begun) =
+    inl (subst (λ (deed : Option Deed). Shows asked deed step.reply errno) (sym begun.0)
+    (subst (λ (told : ActReply). Shows asked (Some (Changes change.Begin)) told errno) (sym begun.1.1) refuses))
+blocked_by asked (step ∷ path) agreed errno refuses (inr later) =
+    inr (blocked_by asked path agreed errno refuses later)
 
 -- fit whatever the path to it was, if this was told on it
 pub record FitOn

@@ -20,6 +20,7 @@ use Rattle.pt_frame.specs.declared.act.ActReply.{ActReply}
 use Rattle.pt_frame.specs.declared.act.ActReply.TheVariants.{Event, Host, NoCopy}
 use Rattle.pt_frame.specs.declared.hold.Hold.{Hold}
 use Rattle.pt_req.specs.Parts.{by_path}
+use Rattle.pt_req.specs.Steps.{is_gone}
 use Rattle.pt_law.specs.Keeps.{MayBeMade}
 use Rattle.pt_law.specs.Told.{MayBeTold}
 use Rattle.pt_fit.specs.Cause.{Asking, asking, caused}
@@ -89,6 +90,21 @@ refused_by asked (Changes this) NoCopy holds path h m n = tt
 not_made : (there : Bool) (errno : Errno) → (if there && false then None else Some errno) ≡ Some errno
 not_made true errno = refl
 not_made false errno = refl
+
+unless : (gone : Bool) (errno : Errno) → gone ≡ false → (if gone then None else Some errno) ≡ Some errno
+unless true errno e = absurd (cc)
+unless false errno e = refl
+
+-- what fails to take capabilities away that are there is heeded
+pub clearing_heeded : (asked : Asking) (fd : Fd) (through : Bool) (name : List ℕ) (errno : Errno) →
+    is_gone (Host (host.Refused errno)) ≡ false →
+    caused asked (call.RemoveXattr fd through name) errno ≡ Some errno
+clearing_heeded asked fd through name errno e = at asked.request
+  where
+    at : (what : Request) →
+        caused (asking asked.plan asked.who what) (call.RemoveXattr fd through name) errno ≡ Some errno
+    at (request.RemoveXattr inode given) = refl
+    at what = unless (is_gone (Host (host.Refused errno))) errno e
 
 -- what opens a name by its path makes nothing
 pub path_heeded : (asked : Asking) (dir : Fd) (name : List ℕ) (errno : Errno) →

@@ -1,5 +1,7 @@
 -- Each request is fit.
 use Rattle.std.proofs.Common.{◌≡◌, ◌∷◌, [], inl, inr, ℕ, Bool, true, false, List, None, Some, refl}
+use Rattle.std.proofs.Common.{if◌then◌else◌}
+use Rattle.pt_host.specs.Errno.{eproto}
 use Rattle.pt_host.specs.Flags.{o_directory}
 use Rattle.pt_host.specs.Words.{Takes.{here, there}}
 use Rattle.pt_host.specs.declared.ids.Fd.{Fd}
@@ -20,7 +22,7 @@ use Rattle.pt_frame.specs.declared.act.ActReply.TheVariants.{Host}
 use Rattle.pt_frame.specs.declared.hold.Hold.{Hold}
 use Rattle.pt_frame.specs.declared.hold.Hold.TheVariants as hold
 use Rattle.pt_req.specs.Entries.{attr_of}
-use Rattle.pt_req.specs.Options.{agreed_with, init_options, open_options, with_bits}
+use Rattle.pt_req.specs.Options.{agreed_with, init_options, is_short_of, open_options, with_bits}
 use Rattle.pt_req.specs.Requests.{batch_forget, destroy, init, lookup, open_file, read, release, root}
 use Rattle.pt_req.specs.Steps.{session_of, begin}
 use Rattle.pt_req.specs.declared.plan.Plan.{Plan}
@@ -41,6 +43,7 @@ use Rattle.pt_fit.proofs.Setting.{fit_setattr}
 use Rattle.pt_fit.proofs.Objects.{fit_named}
 use Rattle.pt_fit.proofs.Joined.{after_any_step, fit_file_by, fit_files_by, fit_gives, fit_look_up, fit_open_num}
 use Rattle.pt_fit.proofs.Joined.{fit_root_open, fit_unserved}
+use Rattle.pt_fit.proofs.Xattrs.{fit_getxattr, fit_listxattr, fit_readdir, fit_removexattr, fit_setxattr}
 use Rattle.pt_fit.proofs.Parts.{FitOn, GoesAfter, fit_begin, fit_clear, fit_forget_all, fit_name, fit_pin_handle}
 use Rattle.pt_fit.proofs.Parts.{fit_place, fit_release_handle, Seen}
 use Rattle.pt_law.specs.World.{made}
@@ -62,11 +65,20 @@ fit_forget asked list = fit_begin _ refl (λ session.
     fit_forget_all list _ refl (λ later l. fit_gives answer.NoReply (λ path. (tt, tt, tt))))
 
 -- a session begins anew; closings come between the clearing and the root
-fit_init : (asked : Asking) (plan : Plan) (capable : FsOptions) → FitOn asked [] (init plan capable) [] [] blank
-fit_init asked plan capable = fit_clear _ refl refl (λ era later l.
+fit_init : (plan : Plan) (who : Context) (capable : FsOptions) →
+    FitOn (asking plan who (request.Init capable)) [] (init plan capable) [] [] blank
+fit_init plan who capable = fit_clear _ refl refl (λ era later l.
     fit_root_open plan (session_of era nothing_agreed) (Some (agreed_with plan.config capable)) _ nothing_bare
     l.0 l.1 l.4
-    (λ fd told last. fit_gives (answer.Inited (init_options plan.config capable)) (λ path. (tt, tt, tt))))
+    (λ fd told last. answered (is_short_of plan.config capable) refl))
+  where
+    answered : {seen : List Seen} {holds : List Hold} {marks : List ℕ} {notes : Notes} (short : Bool) →
+        is_short_of plan.config capable ≡ short →
+        FitOn (asking plan who (request.Init capable)) seen
+        (Gives (if short then answer.Refused eproto else answer.Inited (init_options plan.config capable))) holds marks
+        notes
+    answered true e = fit_gives (answer.Refused eproto) (λ path. (tt, inl (e, refl), tt))
+    answered false e = fit_gives (answer.Inited (init_options plan.config capable)) (λ path. (tt, tt, tt))
 
 fit_destroy : (asked : Asking) → FitOn asked [] destroy [] [] blank
 fit_destroy asked = fit_clear _ refl refl (λ era later l. fit_gives answer.NoReply (λ path. (tt, tt, tt)))
@@ -183,7 +195,7 @@ fit_link plan who inode newparent newname = fit_begin _ refl (λ session.
 
 fits : (plan : Plan) (seat : HostSeat) (who : Context) (what : Request) →
     FitOn (asking plan who what) [] (tree_of plan seat who what) [] [] blank
-fits plan seat who (request.Init capable) = fit_init (asking plan who (request.Init capable)) plan capable
+fits plan seat who (request.Init capable) = fit_init plan who capable
 fits plan seat who request.Destroy = fit_destroy (asking plan who request.Destroy)
 fits plan seat who request.Root = fit_root (asking plan who request.Root) plan
 fits plan seat who (request.Lookup parent name) = fit_lookup plan who parent name
@@ -203,16 +215,16 @@ fits plan seat who (request.Create parent name mode kill flags umask ext) =
     fit_create plan who parent name mode kill flags umask ext seat
 fits plan seat who (request.Mkdir parent name mode umask ext) =
     fit_named plan seat who (request.Mkdir parent name mode umask ext)
-    (object_asked who parent name ext) (Directory mode) (λ bad. inl (bad, refl)) (λ bad. absurd (cc))
-    (λ session none. inr (forbidden_from _ _ _ _ none, refl)) (λ agreed blocks. blocks) (λ entry. tt)
+    (object_asked who parent name (Some umask) ext) (Directory mode) (λ bad. inl (bad, refl)) (λ bad. absurd (cc))
+    (λ session none. inr (forbidden_from _ _ _ _ none, refl)) (λ agreed. refl) (λ entry. tt)
 fits plan seat who (request.Mknod parent name mode rdev umask ext) =
     fit_named plan seat who (request.Mknod parent name mode rdev umask ext)
-    (object_asked who parent name ext) (Node mode rdev) (λ bad. inl (bad, refl)) (λ bad. absurd (cc))
-    (λ session none. inr (forbidden_from _ _ _ _ none, refl)) (λ agreed blocks. blocks) (λ entry. tt)
+    (object_asked who parent name (Some umask) ext) (Node mode rdev) (λ bad. inl (bad, refl)) (λ bad. absurd (cc))
+    (λ session none. inr (forbidden_from _ _ _ _ none, refl)) (λ agreed. refl) (λ entry. tt)
 fits plan seat who (request.Symlink target parent name ext) =
     fit_named plan seat who (request.Symlink target parent name ext)
-    (object_asked who parent name ext) (Link target) (λ bad. inl (inl (bad, refl))) (λ bad. inr (bad, refl))
-    (λ session none. inl (inr (forbidden_from _ _ _ _ none, refl))) (λ agreed blocks. blocks) (λ entry. tt)
+    (object_asked who parent name None ext) (Link target) (λ bad. inl (inl (bad, refl))) (λ bad. inr (bad, refl))
+    (λ session none. inl (inr (forbidden_from _ _ _ _ none, refl))) (λ agreed. refl) (λ entry. tt)
 fits plan seat who (request.Readlink inode) = fit_readlink plan who inode
 fits plan seat who (request.StatFs inode) = fit_statfs plan who inode
 fits plan seat who (request.GetAttr inode) = fit_getattr plan who inode
@@ -238,7 +250,13 @@ fits plan seat who (request.Fsync inode handle datasync) =
 fits plan seat who (request.FsyncDir inode handle datasync) =
     fit_fsync (asking plan who (request.FsyncDir inode handle datasync)) inode handle datasync
 fits plan seat who (request.SyncFs inode) = fit_syncfs plan who inode
-fits plan seat who what = fit_unserved (asking plan who what) refl
+fits plan seat who (request.ReadDir inode handle size offset) = fit_readdir plan who inode handle size offset
+fits plan seat who (request.SetXattr inode name value flags extra) =
+    fit_setxattr plan who inode name value flags extra
+fits plan seat who (request.GetXattr inode name size) = fit_getxattr plan who inode name size
+fits plan seat who (request.ListXattr inode size) = fit_listxattr plan who inode size
+fits plan seat who (request.RemoveXattr inode name) = fit_removexattr plan who inode name
+fits plan seat who (request.Other opcode) = fit_unserved (asking plan who (request.Other opcode)) refl
 
 -- Each request's tree is fit.
 pub fit_request : (plan : Plan) (seat : HostSeat) (who : Context) (what : Request) →

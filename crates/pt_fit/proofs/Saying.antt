@@ -22,13 +22,13 @@ use Rattle.pt_frame.specs.declared.act.ActReply.TheVariants.{Host}
 use Rattle.pt_frame.specs.declared.finish.Finish.{Finish}
 use Rattle.pt_frame.specs.declared.hold.Hold.{Hold}
 use Rattle.pt_frame.specs.declared.hold.Hold.TheVariants as hold
-use Rattle.pt_req.specs.Asker.{cap_raised, egid_set, euid_set, group_set, taken_on}
+use Rattle.pt_req.specs.Asker.{cap_raised, egid_set, euid_set, group_set, taken_on, under_umask}
 use Rattle.pt_req.specs.Steps.{open_scope}
 use Rattle.pt_req.specs.declared.plan.Plan.{Plan}
 use Rattle.pt_req.proofs.Replying.{if_set, if_tried}
 use Rattle.pt_req.proofs.Walking.{InScope, OfDeed, Walk}
 use Rattle.pt_job.specs.Pattern.{Asked, Requests, Edits, grammar_for, tree_of}
-use Rattle.pt_job.proofs.Walking.{OfScopes, each_request, of_any}
+use Rattle.pt_job.proofs.Walking.{OfScopes, each_request, of_any, of_memory}
 use Rattle.pt_law.specs.Agreed.{Says, Begins, Decides}
 use Rattle.pt_law.proofs.Doing.{Does, OfReturns, All, all_framed, steps_so, cut_so}
 use Rattle.pt_fit.specs.Answered.{ComesToAnswer}
@@ -70,7 +70,7 @@ module _ (decided : Option Negotiated) where
   in_scope told (Opens asked scope next) so = absurd so
   in_scope told (Brackets rest) so = absurd so
   in_scope told (Shuts passes rest) so = absurd so
-  in_scope told (Allocates rest) so = absurd so
+  in_scope told (Allocates made next) so = absurd so
 
   opens_saying : (asked : Call) (scope : Hold) (next : RequestTree) → Saying next →
       Saying (open_scope asked scope next)
@@ -99,7 +99,11 @@ module _ (decided : Option Negotiated) where
       sets_group steps.groups (egid_set steps.egid under_uid)
       (sets_egid steps.egid under_uid (sets_euid steps.euid raised (raises steps.raise next so)))
 
-  saying : (seat : HostSeat) → Walk seat (λ creds. Unit {0}) SaysSo Saying (λ told tree. Saying tree)
+  sets_umask : (umask : Option ℕ) (next : RequestTree) → Saying next → Saying (under_umask umask next)
+  sets_umask None next so = so
+  sets_umask (Some mask) next so = opens_saying (call.SetUmask mask) hold.Umask next so
+
+  saying : (seat : HostSeat) → Walk seat (λ creds umask. Unit {0}) SaysSo Saying (λ told tree. Saying tree)
   saying seat = record {
     gives = λ last is. tt;
     refuses = λ told. tt;
@@ -112,8 +116,9 @@ module _ (decided : Option Negotiated) where
     brackets = λ rest so. so;
     shuts = λ passes rest so. so;
     shuts_after = λ told passes rest so. so;
-    makes_as = λ creds making next is may so.
-        as_asker (cred_steps creds seat) (Asks (Calls making) (λ told. Bares (next told))) (tt, so);
+    makes_as = λ creds umask making next is may so.
+        as_asker (cred_steps creds seat) (under_umask umask (Asks (Calls making) (λ told. Bares (next told))))
+        (sets_umask umask (Asks (Calls making) (λ told. Bares (next told))) (tt, so));
     bares = λ rest so. so;
     drops = λ rest has so. (
       tt,
@@ -127,12 +132,18 @@ of_said : (plan : Plan) (seat : HostSeat) (who : Context) (asked : Request) →
     OfScopes (SaysSo (decides plan (Requests who asked))) plan seat asked
 of_said plan seat who (request.Init capable) = λ era form told. refl
 of_said plan seat who request.Root = λ era form told. refl
-of_said plan seat who (request.Open inode kill flags) = λ fd how. tt
-of_said plan seat who (request.OpenDir inode flags) = λ fd how. tt
-of_said plan seat who (request.Create parent name mode kill flags umask ext) = λ fd how. tt
-of_said plan seat who (request.Write inode handle offset bytes delayed kill flags) = λ fd at told append. tt
-of_said plan seat who (request.SetAttr inode handle valid attr) = ((λ fd size. tt), (λ fd how. tt))
+of_said plan seat who (request.Open inode kill flags) = ((λ fd how. tt), (λ fd name. tt))
+of_said plan seat who (request.OpenDir inode flags) = ((λ fd how. tt), (λ fd name. tt))
+of_said plan seat who (request.Create parent name mode kill flags umask ext) = ((λ fd how. tt), (λ fd name. tt))
+of_said plan seat who (request.Write inode handle offset bytes delayed kill flags) =
+    ((λ fd at told append. tt), (λ fd name. tt))
+of_said plan seat who (request.SetAttr inode handle valid attr) =
+    (((λ fd size. tt), (λ fd name. tt)), (λ fd how. tt), (λ fd name. tt))
 of_said plan seat who (request.SyncFs inode) = λ fd how. tt
+of_said plan seat who (request.SetXattr inode name value flags extra) = ((λ fd how. tt), (λ through fd named. tt))
+of_said plan seat who (request.GetXattr inode name size) = λ fd how. tt
+of_said plan seat who (request.ListXattr inode size) = λ fd how. tt
+of_said plan seat who (request.RemoveXattr inode name) = ((λ fd how. tt), (λ through fd named. tt))
 of_said plan seat who asked = tt
 
 asked_says : (plan : Plan) (seat : HostSeat) (asked : Asked) →
@@ -140,7 +151,8 @@ asked_says : (plan : Plan) (seat : HostSeat) (asked : Asked) →
 asked_says plan seat (Requests who asked) =
     let decided = decides plan (Requests who asked) in
     all_framed (Says decided) (returns decided) seat (tree_of plan seat who asked) [] []
-    (each_request (saying decided seat) plan who asked (of_any plan who asked) (of_said plan seat who asked))
+    (each_request (saying decided seat) plan who asked (of_any plan who asked) (of_said plan seat who asked)
+    (of_memory (λ tree. Does (Says decided) tree) (λ made next so. so made) asked))
 asked_says plan seat (Edits edit) = (tt, λ told. tt)
 
 asked_begins : (plan : Plan) (seat : HostSeat) (asked : Asked) (steps : List Step) (end : Finish) →

@@ -1,5 +1,5 @@
 -- A scope that a call of the seat opens, what is asked within it, and its end: each is fit.
-use Rattle.std.proofs.Common.{◌≡◌, ℕ, List, [], ◌∷◌, Bool, true, false, ◌&&◌, if◌then◌else◌, Some, None}
+use Rattle.std.proofs.Common.{◌≡◌, ℕ, List, [], ◌∷◌, Bool, true, false, ◌&&◌, if◌then◌else◌, Option, Some, None}
 use Rattle.std.proofs.Common.{inl, inr, refl, subst, sym}
 use Rattle.pt_host.specs.Words.{Takes.{here}}
 use Rattle.pt_host.specs.Call.{Call}
@@ -19,17 +19,17 @@ use Rattle.pt_frame.specs.declared.act.ActReply.{ActReply}
 use Rattle.pt_frame.specs.declared.act.ActReply.TheVariants.{Event, Host, NoCopy}
 use Rattle.pt_frame.specs.declared.hold.Hold.{Hold}
 use Rattle.pt_frame.specs.declared.hold.Hold.TheVariants as hold
-use Rattle.pt_req.specs.Capability.{fsetid, without_fsetid}
-use Rattle.pt_req.specs.Steps.{open_scope, try_call, is_there, make_at}
+use Rattle.pt_req.specs.Capability.{capability_cleared, cleared_if, fsetid, without_fsetid}
+use Rattle.pt_req.specs.Steps.{open_scope, try_call, is_gone, is_there, make_at}
 use Rattle.pt_req.specs.declared.replies.Made.{Made}
 use Rattle.pt_req.specs.declared.replies.Made.TheVariants.{New, Old}
-use Rattle.pt_law.specs.Discipline.{Notes, found_by, newly, KnowsAll, PinsLatest, at_job}
+use Rattle.pt_law.specs.Discipline.{Notes, found_by, newly, Knows, KnowsAll, PinsLatest, at_job}
 use Rattle.pt_law.specs.Keeps.{MayOpen, uncovered, unscoped}
 use Rattle.pt_fit.specs.Cause.{Asking, caused}
 use Rattle.pt_fit.specs.Fit.{Fit, IsCausedLeaf}
 use Rattle.pt_fit.proofs.Holds.{IsBare, over, uncovered_over}
 use Rattle.pt_fit.proofs.Parts.{FitOn, Opened, Seen, Told, held_as, opened_so, still}
-use Rattle.pt_fit.proofs.Refused.{refused_by}
+use Rattle.pt_fit.proofs.Refused.{refused_by, clearing_heeded}
 use Rattle.pt_law.specs.World.{made}
 
 -- a scope is open where its call was Ok
@@ -64,6 +64,49 @@ fit_bares {asked = asked} {holds = holds} {marks = marks} {notes = notes} droppe
   on = λ path s. held_as asked next (uncovered (over dropped holds)) holds marks notes path
       (uncovered_over dropped holds b) (f.on path s);
 }
+
+-- A file's capabilities go, whatever is held; that it had none is passed over.
+pub fit_cleared : {asked : Asking} {seen : List Seen} {holds : List Hold} {marks : List ℕ} {notes : Notes}
+    (name : Option (List ℕ)) (fd : Fd) (through : Bool) (next : RequestTree) → Knows (unscoped holds) fd →
+    FitOn asked seen next holds marks notes →
+    FitOn asked seen (capability_cleared name fd through next) holds marks notes
+unfolding on go_on
+fit_cleared None fd through next k f = f
+fit_cleared {asked = asked} {seen = seen} {holds = holds} {marks = marks} {notes = notes} (Some name) fd through next k
+    f = record {
+      on = λ path s. (
+        ((k, tt), tt),
+        elim [
+          | Host (host.Ok told) ↦ λ m. f.on _ (still s)
+          | Host (host.Refused errno) ↦
+              λ m. or_refused (Host (host.Refused errno)) (is_gone (Host (host.Refused errno))) path s
+              (λ no. inr (inl (inl (clearing_heeded asked fd through name errno no))))
+          | Host (host.Fault errno) ↦
+              λ m. or_refused (Host (host.Fault errno)) (is_gone (Host (host.Refused errno))) path s
+              (λ no. inr (inl (inl (clearing_heeded asked fd through name errno no))))
+          | Host host.NoMemory ↦ λ m. tt
+          | NoCopy ↦ λ m. tt
+          | Event told ↦ λ m. absurd m
+        ],
+      );
+    }
+  where
+    asks : Deed
+    asks = Calls (call.RemoveXattr fd through name)
+
+    or_refused : (told : ActReply) (gone : Bool) (path : List Step) → Told seen path →
+        (gone ≡ false → IsCausedLeaf asked (made asks told ∷ path) (refusal told)) →
+        Fit asked (go_on (λ done. next) told (if gone then Some (tt {0}) else None)) holds marks notes
+        (made asks told ∷ path)
+    or_refused told true path s caused = f.on (made asks told ∷ path) (still s)
+    or_refused told false path s caused = caused refl
+
+-- of a file that an opening emptied
+pub fit_cleared_if : {asked : Asking} {seen : List Seen} {holds : List Hold} {marks : List ℕ} {notes : Notes}
+    (emptied : Bool) (name : Option (List ℕ)) (fd : Fd) (next : RequestTree) → Knows (unscoped holds) fd →
+    FitOn asked seen next holds marks notes → FitOn asked seen (cleared_if emptied name fd next) holds marks notes
+fit_cleared_if false name fd next k f = f
+fit_cleared_if true name fd next k f = fit_cleared name fd false next k f
 
 -- a capability is raised, or done without
 pub fit_raise : {asked : Asking} {seen : List Seen} {holds : List Hold} {marks : List ℕ}

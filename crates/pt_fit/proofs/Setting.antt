@@ -35,11 +35,11 @@ use Rattle.pt_law.specs.Discipline.{Knows, Notes, blank}
 use Rattle.pt_law.specs.Keeps.{MayMake, unscoped}
 use Rattle.pt_fit.specs.Cause.{Asking, IsForbiddenOwner, asking}
 use Rattle.pt_fit.proofs.Calling.{IsStillCall, fit_do_call, fit_look_at}
-use Rattle.pt_fit.proofs.Holds.{IsBare, nothing_bare, unscoped_over}
+use Rattle.pt_fit.proofs.Holds.{IsBare, nothing_bare, over, unscoped_over}
 use Rattle.pt_fit.proofs.Joined.{after_any_step, fit_file_by, fit_gives, fit_open_row}
 use Rattle.pt_fit.proofs.Parts.{FitOn, GoesAfter, Seen, fit_begin, fit_checked, fit_file_of, fit_pin_handle}
 use Rattle.pt_fit.proofs.Parts.{fit_resolve, noting, resolution}
-use Rattle.pt_fit.proofs.Scopes.{fit_bares, fit_without_fsetid}
+use Rattle.pt_fit.proofs.Scopes.{fit_bares, fit_cleared, fit_without_fsetid}
 use Rattle.pt_fit.proofs.Refused.{IsHeeded}
 
 fit_do_if : {asked : Asking} {seen : List Seen} {holds : List Hold} {marks : List ℕ} {notes : Notes} (is : Bool)
@@ -75,10 +75,12 @@ module _ (plan : Plan) (seat : HostSeat) (who : Context) (inode : ℕ) (handle :
   fit_owns : {seen : List Seen} {holds : List Hold} {marks : List ℕ} {notes : Notes} (file target : Fd)
       (next : RequestTree) → Sets holds file target → (uid gid : Option ℕ) →
       ((uid ≡ None) ⊎ (gid ≡ None) → IsForbiddenOwner plan valid attr) →
-      FitOn asks seen next holds marks notes → FitOn asks seen (own_as file uid gid next) holds marks notes
+      FitOn asks seen next holds marks notes →
+      FitOn asks seen (own_as plan.capability file uid gid next) holds marks notes
   fit_owns file target next s (Some uid) (Some gid) bars f =
+      fit_cleared plan.capability file true _ s.files (
       fit_do_call (call.ChOwn file uid gid) next (record { holds = λ told these. refl; notes = λ told these. refl })
-      ((s.files, tt), tt) (λ errno. refl) f
+      ((s.files, tt), tt) (λ errno. refl) f)
   fit_owns file target next s (Some uid) None bars f =
       record { on = λ path told. (tt, inl (inr (bars (inr refl), refl)), tt) }
   fit_owns file target next s None gid bars f =
@@ -100,7 +102,7 @@ module _ (plan : Plan) (seat : HostSeat) (who : Context) (inode : ℕ) (handle :
       at (sets_uid valid || sets_gid valid)
     where
       at : (is : Bool) → FitOn asks seen
-          (own_if is file (id_set (sets_uid valid) (to_host plan.uid_map attr.uid))
+          (own_if is plan.capability file (id_set (sets_uid valid) (to_host plan.uid_map attr.uid))
           (id_set (sets_gid valid) (to_host plan.gid_map attr.gid)) next) holds marks notes
       at true = fit_owns file target next s _ _ forbidden f
       at false = f
@@ -123,16 +125,18 @@ module _ (plan : Plan) (seat : HostSeat) (who : Context) (inode : ℕ) (handle :
       dropped : Bool
       dropped = drops_fsetid plan seat (kills_suidgid valid)
 
+      knows : Knows (unscoped (over dropped holds)) target.fd
+      knows = subst (λ (all : List Hold). Knows all target.fd) (sym (unscoped_over dropped holds)) s.targets
+
       at : (is : Bool) → FitOn asks seen
-          (cut_if is dropped target.fd attr.size next)
+          (cut_if is dropped plan.capability target.fd attr.size next)
           holds marks notes
       at true =
           fit_without_fsetid dropped _ (
+          fit_cleared plan.capability target.fd false _ knows (
           fit_do_call (call.Truncate target.fd attr.size) _
-          (record { holds = λ told these. refl; notes = λ told these. refl })
-          ((subst (λ (all : List Hold). Knows all target.fd) (sym (unscoped_over dropped holds)) s.targets, tt), tt)
-          (λ errno. refl)
-          (fit_bares dropped next s.bare f))
+          (record { holds = λ told these. refl; notes = λ told these. refl }) ((knows, tt), tt) (λ errno. refl)
+          (fit_bares dropped next s.bare f)))
       at false = f
 
   fit_sets : {seen : List Seen} {holds : List Hold} {marks : List ℕ} {notes : Notes} (file : Fd)

@@ -1,10 +1,12 @@
 -- Believed. The cause of an answer that refuses or that memory ran out: the request itself, or its steps; of an edit
 -- its one step.
-use Rattle.std.specs.Prelude.{◌≡◌, ◌⊎◌, ◌↔◌, ℕ, true, false, ◌&&◌, not, if◌then◌else◌, List, [], ◌∷◌}
+use Rattle.std.specs.Prelude.{◌≡◌, ◌⊎◌, ◌↔◌, ℕ, Bool, true, false, ◌&&◌, not, if◌then◌else◌, List, [], ◌∷◌}
+use Rattle.std.specs.Prelude.{◌==◌, ◌^◌, nat_lt}
 use Rattle.std.specs.Prelude.{Option, None, Some}
 use Rattle.std.specs.List.{list_any}
 use Rattle.pt_host.specs.Call.{Call}
-use Rattle.pt_host.specs.Errno.{errno_of, eperm, eacces, ebadf, eio, einval, enfile, eoverflow, eopnotsupp, estale}
+use Rattle.pt_host.specs.Errno.{errno_of, eperm, eacces, ebadf, eio, einval, enfile, enosys, eoverflow, eproto}
+use Rattle.pt_host.specs.Errno.{estale}
 use Rattle.pt_host.specs.Flags.{includes, o_creat, o_excl}
 use Rattle.pt_host.specs.Sorts.{Sort, OpensWith, EndsFd, OfSeat, Plain, sort_of}
 use Rattle.pt_host.specs.declared.edit.Edit.{Edit}
@@ -18,6 +20,7 @@ use Rattle.pt_host.specs.declared.reply.HostReply.TheVariants as host
 use Rattle.pt_host.specs.declared.reply.HostValue.{HostValue}
 use Rattle.pt_host.specs.declared.reply.HostValue.TheVariants as value
 use Rattle.pt_maps.specs.Translated.{to_host}
+use Rattle.pt_handles.specs.Dirents.{is_listing}
 use Rattle.pt_session.specs.Change.{Change}
 use Rattle.pt_session.specs.declared.event.KeptEvent.TheVariants as change
 use Rattle.pt_session.specs.declared.form.Negotiated.{Negotiated}
@@ -31,24 +34,24 @@ use Rattle.pt_iface.specs.declared.request.Context.{Context}
 use Rattle.pt_iface.specs.declared.request.Extensions.{Extensions}
 use Rattle.pt_iface.specs.declared.request.Request.{Request}
 use Rattle.pt_iface.specs.declared.request.Request.TheVariants as request
-use Rattle.pt_iface.specs.declared.request.SecContext.{SecContext}
 use Rattle.pt_iface.specs.declared.request.SetattrIn.{SetattrIn}
 use Rattle.pt_frame.specs.Deed.{Deed, Calls, Changes, Step}
 use Rattle.pt_frame.specs.Memory.{RanOut}
 use Rattle.pt_frame.specs.declared.act.ActReply.{ActReply}
 use Rattle.pt_frame.specs.declared.act.ActReply.TheVariants.{Event, Host}
 use Rattle.pt_req.specs.Asker.{group_of}
-use Rattle.pt_req.specs.Attributes.{is_blocked}
-use Rattle.pt_req.specs.Creating.{are_same}
+use Rattle.pt_req.specs.Attributes.{refused_label, refused_name}
 use Rattle.pt_req.specs.Entries.{attr_of, is_bad_name, is_bad_offset, can_open}
-use Rattle.pt_req.specs.Options.{making_flags}
+use Rattle.pt_req.specs.Options.{is_short_of, making_flags}
 use Rattle.pt_req.specs.Parts.{by_path}
-use Rattle.pt_req.specs.Steps.{is_there}
+use Rattle.pt_req.specs.Steps.{is_gone, is_there}
 use Rattle.pt_req.specs.declared.plan.Plan.{Plan}
+use Rattle.pt_attr.specs.Creating.{are_same}
 use Rattle.pt_attr.specs.Access.{is_granted}
 use Rattle.pt_attr.specs.Making.{is_nul}
 use Rattle.pt_attr.specs.Setting.{is_missized, opens_anew, sets_gid, sets_uid}
-use Rattle.pt_job.specs.Pattern.{Asked, Requests, Edits}
+use Rattle.pt_xattr.specs.Parts.{as_missing}
+use Rattle.pt_job.specs.Pattern.{Asked, Requests, Edits, takes_memory}
 
 -- a request, who asks it, and the plan by which it is served
 pub record Asking : Type 0 where
@@ -60,13 +63,17 @@ abbrev pub asking : Plan → Context → Request → Asking
 asking plan who what = record { plan = plan; who = who; request = what }
 
 -- it opens a number, as `create` does where the name is there and the guest takes what is there, `setattr` for a size
--- that no handle sets, and `syncfs` what stands for its file system
+-- that no handle sets, `syncfs` what stands for its file system, and those of extended attributes what they ask by
 abbrev pub OpensFile : Request → Type 0
 OpensFile (request.Open inode kill flags) = Unit {0}
 OpensFile (request.OpenDir inode flags) = Unit {0}
 OpensFile (request.Create parent name mode kill flags umask ext) = includes flags o_excl ≡ false
 OpensFile (request.SetAttr inode handle valid attr) = opens_anew handle valid ≡ true
 OpensFile (request.SyncFs inode) = Unit {0}
+OpensFile (request.SetXattr inode name value flags extra) = Unit {0}
+OpensFile (request.GetXattr inode name size) = Unit {0}
+OpensFile (request.ListXattr inode size) = Unit {0}
+OpensFile (request.RemoveXattr inode name) = Unit {0}
 OpensFile asked = ⊥
 
 -- what ends a descriptor is passed over, and the error number of any other call is the request's
@@ -78,7 +85,8 @@ by_sort Plain told = Some told
 
 -- The refusal of the request that a call shows which was refused, or failed, with this error number; none where that
 -- is passed over. A capability that is not raised is done without. What was made and gets no context goes again, or
--- stays. A file that is there is opened in place of a new one, where the guest takes it.
+-- stays. A file that is there is opened in place of a new one, where the guest takes it. A file that had no
+-- capabilities, or can have none, needs to lose none.
 abbrev pub caused : Asking → Call → Errno → Option Errno
 caused asked made told = heeded made asked.request
   where
@@ -91,6 +99,8 @@ caused asked made told = heeded made asked.request
     heeded (call.OpenAt dir its_name how its_mode) (request.Create parent name mode kill flags umask ext) =
         if is_there (Host (host.Refused told)) && not (includes flags o_excl) && includes how.0 o_creat then None
         else Some told
+    heeded (call.RemoveXattr fd through its_name) (request.RemoveXattr inode name) = Some told
+    heeded (call.RemoveXattr fd through its_name) what = if is_gone (Host (host.Refused told)) then None else Some told
     heeded made what = by_sort (sort_of made) told
 
 -- the one that an event shows by its refusal; none where it gives a hold back or takes a closing
@@ -117,26 +127,31 @@ refused_as (change.Release handle number) NotLive = Some ebadf
 refused_as change.Clear Last = Some eoverflow
 refused_as made why = None
 
--- by what was agreed on, the name of the context is blocked that the request brings
-abbrev pub IsBlockedLabel : Negotiated → Option SecContext → Type 0
-IsBlockedLabel agreed None = ⊥
-IsBlockedLabel agreed (Some label) = is_blocked agreed label.name ≡ true
+-- what the guest may not use is, to one who reads, as what is not there
+abbrev pub refused_to_read : Option Errno → Option Errno
+refused_to_read None = None
+refused_to_read (Some errno) = Some (as_missing errno)
 
-abbrev pub BlocksLabel : Negotiated → Request → Type 0
-BlocksLabel agreed (request.Create parent name mode kill flags umask ext) = IsBlockedLabel agreed ext.secctx
-BlocksLabel agreed (request.Mkdir parent name mode umask ext) = IsBlockedLabel agreed ext.secctx
-BlocksLabel agreed (request.Mknod parent name mode rdev umask ext) = IsBlockedLabel agreed ext.secctx
-BlocksLabel agreed (request.Symlink target parent name ext) = IsBlockedLabel agreed ext.secctx
-BlocksLabel agreed asked = ⊥
+-- By what was agreed on and by the rules, the guest may not use the name that the request asks, or that of the context
+-- that it brings.
+abbrev pub name_refused : Plan → Negotiated → Request → Option Errno
+name_refused plan agreed (request.Create parent name mode kill flags umask ext) = refused_label plan agreed ext.secctx
+name_refused plan agreed (request.Mkdir parent name mode umask ext) = refused_label plan agreed ext.secctx
+name_refused plan agreed (request.Mknod parent name mode rdev umask ext) = refused_label plan agreed ext.secctx
+name_refused plan agreed (request.Symlink target parent name ext) = refused_label plan agreed ext.secctx
+name_refused plan agreed (request.SetXattr inode name value flags extra) = refused_name plan agreed name
+name_refused plan agreed (request.GetXattr inode name size) = refused_to_read (refused_name plan agreed name)
+name_refused plan agreed (request.RemoveXattr inode name) = refused_name plan agreed name
+name_refused plan agreed asked = None
 
--- A step shows it: a call by its error number, an event by its refusal. A session may begin with what blocks the
--- request's context, and a number that stands for neither a regular file nor a directory is not opened.
+-- A step shows it: a call by its error number, an event by its refusal. A session may begin with what refuses
+-- the name of the request's context, and a number that stands for neither a regular file nor a directory is not opened.
 abbrev pub Shows : Asking → Option Deed → ActReply → Errno → Type 0
 Shows asked (Some (Calls made)) (Host (host.Refused errno)) cause = caused asked made errno ≡ Some cause
 Shows asked (Some (Calls made)) (Host (host.Fault errno)) cause = caused asked made errno ≡ Some cause
 Shows asked (Some (Changes made)) (Event (Refused why)) cause = refused_as made why ≡ Some cause
 Shows asked (Some (Changes change.Begin)) (Event (Began era agreed)) cause =
-    BlocksLabel agreed asked.request × (cause ≡ eopnotsupp)
+    name_refused asked.plan agreed asked.request ≡ Some cause
 Shows asked (Some (Changes (change.Resolve number))) (Event (Resolved resolved)) cause =
     OpensFile asked.request × (can_open resolved.mode ≡ false) × (cause ≡ ebadf)
 Shows asked made told cause = ⊥
@@ -170,11 +185,29 @@ IsDenied plan who mask steps =
     (fd : Fd) × (stat : Stat) × WasTold (call.Stat fd) (value.Stat stat) steps
     × (is_granted who mask (attr_of plan stat 0) ≡ false)
 
+-- A call told a number of bytes that does not fit 32 bits.
+abbrev pub IsTooLong : (Fd → Bool → List ℕ → Call) → List Step → Type 0
+IsTooLong asks steps =
+    (fd : Fd) × (through : Bool) × (name : List ℕ) × (count : ℕ)
+    × WasTold (asks fd through name) (value.Count count) steps × (nat_lt count (2 ^ 32) ≡ false)
+
+-- What was listed is no records.
+abbrev pub IsNoListing : ℕ → ℕ → List Step → Type 0
+IsNoListing size offset steps =
+    (fd : Fd) × (bytes : List ℕ) × WasTold (call.ListAt fd (Some offset) size) (value.Bytes bytes) steps
+    × (is_listing bytes ≡ false)
+
 -- what the steps were told of objects causes it
 abbrev pub TellsCause : Plan → Context → Request → List Step → Errno → Type 0
 TellsCause plan who (request.Create parent name mode kill flags umask ext) steps cause =
     IsStale name mode flags steps × (cause ≡ estale)
 TellsCause plan who (request.Access inode mask) steps cause = IsDenied plan who mask steps × (cause ≡ eacces)
+TellsCause plan who (request.GetXattr inode name size) steps cause =
+    IsTooLong (λ fd through named. call.GetXattr fd through named size) steps × (cause ≡ eoverflow)
+TellsCause plan who (request.ListXattr inode size) steps cause =
+    IsTooLong (λ fd through named. call.ListXattr fd through size) steps × (cause ≡ eoverflow)
+TellsCause plan who (request.ReadDir inode handle size offset) steps cause =
+    IsNoListing size offset steps × (cause ≡ eio)
 TellsCause plan who asked steps cause = ⊥
 
 -- the maps forbid one of the ids of who asks: of its user, its group, or the group that the request tells
@@ -194,10 +227,23 @@ IsForbiddenOwner plan valid attr =
     ((sets_uid valid ≡ true) × (to_host plan.uid_map attr.uid ≡ None))
     ⊎ ((sets_gid valid ≡ true) × (to_host plan.gid_map attr.gid ≡ None))
 
--- The request itself causes it: what is to be looked up, made, moved or taken away is no name, the target of a
--- symbolic link has a NUL, an offset, a length or a size is past the last that a file can have, an id of who asks or
--- of an owner is forbidden, or it is a function that there is not, `ENOSYS`.
+-- the guest may not use extended attributes, or a name has a NUL
+abbrev pub NoXattr : Plan → Errno → Type 0
+NoXattr plan cause = (plan.config.xattr ≡ false) × (cause ≡ enosys)
+
+abbrev pub HasNul : List ℕ → Errno → Type 0
+HasNul name cause = (list_any (λ byte. byte == 0) name ≡ true) × (cause ≡ einval)
+
+-- an attribute cannot be asked by this name
+abbrev pub NameCause : Plan → List ℕ → Errno → Type 0
+NameCause plan name cause = NoXattr plan cause ⊎ HasNul name cause
+
+-- The request itself causes it: a guest does not offer what is configured, what is to be looked up, made, moved or
+-- taken away is no name, the target of a symbolic link has a NUL, an offset, a length or a size is past the last that a
+-- file can have, an id of who asks or of an owner is forbidden, the guest may not use extended attributes, a name of
+-- one has a NUL, or it is a function that there is not, `ENOSYS`.
 abbrev pub OwnCause : Plan → Context → Request → Errno → Type 0
+OwnCause plan who (request.Init capable) cause = (is_short_of plan.config capable ≡ true) × (cause ≡ eproto)
 OwnCause plan who (request.Lookup parent name) cause = (is_bad_name name ≡ true) × (cause ≡ einval)
 OwnCause plan who (request.Read inode handle size offset) cause = (is_bad_offset offset ≡ true) × (cause ≡ einval)
 OwnCause plan who (request.Write inode handle offset bytes delayed kill flags) cause =
@@ -219,11 +265,11 @@ OwnCause plan who (request.Rename olddir oldname newdir newname flags) cause =
     ((is_bad_name oldname ≡ true) ⊎ (is_bad_name newname ≡ true)) × (cause ≡ einval)
 OwnCause plan who (request.SetAttr inode handle valid attr) cause =
     ((is_missized valid attr ≡ true) × (cause ≡ einval)) ⊎ (IsForbiddenOwner plan valid attr × (cause ≡ eperm))
-OwnCause plan who (request.ReadDir inode handle size offset) cause = cause ≡ errno_of 38
-OwnCause plan who (request.SetXattr inode name value flags extra) cause = cause ≡ errno_of 38
-OwnCause plan who (request.GetXattr inode name size) cause = cause ≡ errno_of 38
-OwnCause plan who (request.ListXattr inode size) cause = cause ≡ errno_of 38
-OwnCause plan who (request.RemoveXattr inode name) cause = cause ≡ errno_of 38
+OwnCause plan who (request.ReadDir inode handle size offset) cause = (is_bad_offset offset ≡ true) × (cause ≡ einval)
+OwnCause plan who (request.SetXattr inode name value flags extra) cause = NameCause plan name cause
+OwnCause plan who (request.GetXattr inode name size) cause = NameCause plan name cause
+OwnCause plan who (request.ListXattr inode size) cause = NoXattr plan cause
+OwnCause plan who (request.RemoveXattr inode name) cause = NameCause plan name cause
 OwnCause plan who (request.Other opcode) cause = cause ≡ errno_of 38
 OwnCause plan who asked cause = ⊥
 
@@ -232,10 +278,10 @@ HasCause asked steps cause =
     OwnCause asked.plan asked.who asked.request cause ⊎ SomeShows asked steps cause
     ⊎ TellsCause asked.plan asked.who asked.request steps cause
 
--- an answer that refuses, or that memory ran out, has its cause
+-- an answer that refuses, or that memory ran out, for a step or for what the request makes, has its cause
 abbrev pub IsCaused : Asking → List Step → Answer → Type 0
 IsCaused asked steps (answer.Refused errno) = HasCause asked steps errno
-IsCaused asked steps answer.NoMemory = RanOut steps
+IsCaused asked steps answer.NoMemory = RanOut steps ⊎ (takes_memory asked.request ≡ true)
 IsCaused asked steps last = Unit {0}
 
 -- the edit's one step was refused, or failed, with this error number

@@ -57,7 +57,7 @@ Fit asked (Shuts passes rest) holds marks notes path =
     (later : Notes) → Lasts notes later →
     Fit asked rest (under (front passes holds) (down_to (mark_in marks) (behind passes holds))) (outer marks) later
     path
-Fit asked (Allocates rest) holds marks notes path = Fit asked rest holds marks notes path
+Fit asked (Allocates made next) holds marks notes path = Fit asked (next made) holds marks notes path
 
 -- from its start on
 abbrev pub IsFit : Asking → RequestTree → Type 0

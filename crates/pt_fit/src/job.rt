@@ -1,4 +1,4 @@
-ghost use Rattle.std.specs.Prelude.{◌≡◌, ℕ, Bool, List, [], length, Some};
+ghost use Rattle.std.specs.Prelude.{◌≡◌, ℕ, Bool, false, List, [], length, Some};
 ghost use Rattle.pt_host.specs.declared.edit.Edit.{Edit};
 ghost use Rattle.pt_host.specs.declared.seat.HostSeat.{HostSeat};
 ghost use Rattle.pt_iface.specs.declared.answer.Answer.{Answer};
@@ -18,7 +18,7 @@ ghost use Rattle.pt_frame.specs.declared.finish.Finish.{Finish};
 ghost use Rattle.pt_frame.specs.declared.finish.Finish.TheVariants as finish;
 ghost use Rattle.pt_job.specs.Pattern.{tree_of};
 ghost use Rattle.pt_req.specs.declared.plan.Plan.{Plan};
-ghost use Rattle.pt_job.specs.Pattern.{Asked, Requests, Edits, grammar_for};
+ghost use Rattle.pt_job.specs.Pattern.{Asked, Requests, Edits, grammar_for, takes_memory_for};
 ghost use Rattle.pt_law.specs.Discipline.{idle, ComesToEnd};
 ghost use Rattle.pt_law.specs.Told.{AllMayBeTold};
 ghost use Rattle.pt_law.specs.Agreed.{Decides};
@@ -37,14 +37,14 @@ pub fn each_request()
 {}
 
 /// Whatever a job asks, a request or an edit: where its replies are such as may come, its steps keep the discipline
-/// to their end, whole or cut; where none lacked memory, it had not given up before it was cut; a refusal has its
-/// cause; a handle that it inserted is its answer's, unless it was cut; its first step begins it; and an entry is an
-/// answer to what asks for a name, and with a handle that of `create`.
+/// to their end, whole or cut; where none lacked memory, and the job takes none of its own, it had not given up before
+/// it was cut; a refusal has its cause; a handle that it inserted is its answer's, unless it was cut; its first step
+/// begins it; and an entry is an answer to what asks for a name, and with a handle that of `create`.
 pub fn asked_ends()
     ensures ends { (plan : Plan) (seat : HostSeat) (asked : Asked) (steps : List Step) (end : Finish) →
         AllMayBeTold steps → ComesToAnswer plan seat asked steps end → ComesToEnd idle steps end }
     ensures full { (plan : Plan) (seat : HostSeat) (asked : Asked) (so_far steps : List Step) (end : Finish) →
-        AllMayBeTold so_far → (RanOut so_far → ⊥) →
+        takes_memory_for asked ≡ false → AllMayBeTold so_far → (RanOut so_far → ⊥) →
         CutAfter seat (grammar_for plan seat asked) so_far steps end →
         CutInFull seat (grammar_for plan seat asked) so_far steps end }
     ensures causes { (plan : Plan) (seat : HostSeat) (asked : Asked) (steps : List Step) (last : Answer) →

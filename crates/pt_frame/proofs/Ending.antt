@@ -232,4 +232,4 @@ det_framed seat (Brackets rest) holds marks = det_framed seat rest holds (length
 det_framed seat (Shuts passes rest) holds marks =
     det_shut seat (front passes holds) (mark_in marks) (behind passes holds)
     (λ left. framed seat rest left (outer marks)) (λ left. det_framed seat rest left (outer marks))
-det_framed seat (Allocates rest) holds marks = det_framed seat rest holds marks
+det_framed seat (Allocates made next) holds marks = det_framed seat (next made) holds marks

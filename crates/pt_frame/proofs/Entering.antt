@@ -1,28 +1,30 @@
 -- How a request goes on between two acts.
-use Rattle.std.proofs.Common.{◌≡◌, ◌≢◌, ℕ, zero, suc, ◌+◌, ◌-◌, ◌<◌, ◌≤◌, Bool, true, false, List, [], ◌∷◌, ◌++◌}
-use Rattle.std.proofs.Common.{length, Option, Some, None, refl, ap, sym, subst, ◌∙◌, arith, length-append}
+use Rattle.std.proofs.Common.{◌≡◌, ℕ, ◌+◌, ◌-◌, ◌<◌, ◌≤◌, Bool, true, false, List, [], ◌∷◌, ◌++◌}
+use Rattle.std.proofs.Common.{length, Option, Some, None, refl, ap, sym, subst, ◌∙◌, inl, inr, arith, length-append}
 use Rattle.pt_host.specs.declared.ids.Errno.{Errno}
 use Rattle.pt_host.specs.declared.seat.HostSeat.{HostSeat}
 use Rattle.pt_iface.specs.declared.answer.Answer.{Answer}
+use Rattle.pt_iface.specs.declared.answer.Answer.TheVariants as answer
 use Rattle.pt_session.specs.Change.{Change}
 use Rattle.pt_session.specs.declared.event.KeptEvent.TheVariants as change
 use Rattle.pt_session.specs.declared.reply.EventReply.{EventReply}
 use Rattle.pt_session.specs.declared.reply.EventReply.TheVariants as event
 use Rattle.pt_frame.specs.Deed.{Deed, Calls, Changes, deed_of}
-use Rattle.pt_frame.specs.Frame.{answered, bare, closings, front, behind, leave, mark_in, outer, shut}
+use Rattle.pt_frame.specs.Frame.{answered, closings, leave, mark_in, outer}
 use Rattle.pt_frame.specs.Grammar.{Grammar, IsChosen, after, told_closings, told_inserted}
 use Rattle.pt_frame.specs.Past.{or_first}
-use Rattle.pt_frame.specs.Replies.{added_by, refusal, closings_in, inserted_by, is_cut}
-use Rattle.pt_frame.specs.Tree.{RequestTree, Gives, Refuses, Asks, Opens, Bares, Brackets, Shuts, Allocates, framed}
+use Rattle.pt_frame.specs.Replies.{added_by, inserted_by, is_cut}
+use Rattle.pt_frame.specs.Tree.{RequestTree, Gives, Refuses, Asks, Opens, Bares, Brackets, Shuts, framed}
 use Rattle.pt_frame.specs.Tree.{allocates}
 use Rattle.pt_frame.specs.Machine.Ahead.{IsAhead, WasHeard}
-use Rattle.pt_frame.specs.Machine.Brings.{act_brings, act_may, brings_of, change_brings, holds_in, is_same, rows_in}
-use Rattle.pt_frame.specs.Machine.Enters.{Enters, Gave, Passes}
-use Rattle.pt_frame.specs.Machine.Left.{Stays, Tells, bares_left, given_left, is_above, is_ready, mode_counts, mode_left}
-use Rattle.pt_frame.specs.Machine.Left.{NoneUnless, shuts_left, tops, passes_at}
-use Rattle.pt_frame.specs.Machine.Room.{Keeps, act_cost, acts_spent, most_holds, most_rows, most_told, room_spent}
+use Rattle.pt_frame.specs.Machine.Brings.{act_brings, act_may, brings_of, change_brings, holds_in, rows_in}
+use Rattle.pt_frame.specs.Machine.Enters.{Enters, Gave, Passes, GoesOrEnds}
+use Rattle.pt_frame.specs.Machine.Left.{Stays, Tells, bares_left, is_above, is_ready, mode_counts}
+use Rattle.pt_frame.specs.Machine.Left.{mode_left}
+use Rattle.pt_frame.specs.Machine.Left.{NoneUnless, shuts_left, tops}
+use Rattle.pt_frame.specs.Machine.Room.{Keeps, KeepsOn, act_cost, acts_spent, most_holds, most_rows, most_told, room_spent}
 use Rattle.pt_frame.specs.Machine.Room.{rows_spent}
-use Rattle.pt_frame.specs.Machine.Walk.{AsksFor, IsAsks, asked, asking, elsewhere, told_on, walk}
+use Rattle.pt_frame.specs.Machine.Walk.{AsksFor, asked, asking, told_on, walk}
 use Rattle.pt_frame.specs.declared.act.Act.{Act}
 use Rattle.pt_frame.specs.declared.act.ActReply.{ActReply}
 use Rattle.pt_frame.specs.declared.act.ActReply.TheVariants as acted
@@ -30,30 +32,33 @@ use Rattle.pt_frame.specs.declared.finish.Finish.TheVariants as finish
 use Rattle.pt_frame.specs.declared.hold.Hold.{Hold}
 use Rattle.pt_frame.specs.declared.machine.going.Ahead.TheVariants as ahead
 use Rattle.pt_frame.specs.declared.machine.mode.Mode.{Mode}
+use Rattle.pt_frame.specs.declared.product.Product.{Product}
 use Rattle.pt_frame.specs.declared.machine.mode.Mode.TheVariants as mode
 use Rattle.pt_frame.specs.declared.told.Brings.{Brings}
-use Rattle.pt_frame.specs.declared.told.Brings.TheVariants as brings
 use Rattle.pt_frame.specs.declared.told.Heard.{Heard}
 use Rattle.pt_frame.specs.declared.told.Heard.TheVariants as heard
-use Rattle.pt_frame.proofs.Ahead.{ahead_act, ahead_gives, ahead_refuses, ahead_bares, ahead_brackets, ahead_shuts}
+use Rattle.pt_frame.proofs.Ahead.{ahead_act, ahead_ends, ahead_makes, ahead_refuses, ahead_bares}
+use Rattle.pt_frame.proofs.Ahead.{ahead_brackets, ahead_shuts}
 use Rattle.pt_frame.proofs.Framing.{asks_asking, asks_closings, bare_done, body_went, for_asks, shut_done}
-use Rattle.pt_frame.proofs.Keeping.{bares_keeps, brackets_keeps, shuts_keeps, act_keeps, for_keeps, keeps_spares}
-use Rattle.pt_frame.proofs.Keeping.{act_left as act_after, same_is, spent_more, walk_keeps, walk_more}
+use Rattle.pt_frame.proofs.Keeping.{bares_keeps, bares_spare, brackets_keeps, brackets_spare, makes_keeps, shuts_keeps}
+use Rattle.pt_frame.proofs.Keeping.{shuts_spare, sooner, act_keeps, for_keeps}
+use Rattle.pt_frame.proofs.Keeping.{same_is, spent_more, walk_keeps, walk_more}
 
 -- the bounds of what is left of a request
 pub left_keeps : (tree : RequestTree) (acts : ℕ) (told : List Heard) →
     Keeps tree most_told acts most_holds most_rows →
-    Keeps (walk tree told) (most_told - length told) (acts - acts_spent told) (most_holds - room_spent told)
+    KeepsOn (walk tree told) (most_told - length told) (acts - acts_spent told) (most_holds - room_spent told)
     (most_rows - rows_spent told)
-left_keeps tree acts told is = walk_keeps tree told most_told acts most_holds most_rows is
+left_keeps tree acts told is =
+    walk_keeps tree told most_told acts most_holds most_rows (sooner tree most_told acts most_holds most_rows is)
 
 -- where it asks for an act
 pub enters_act : (seat : HostSeat) (tree : RequestTree) (acts : ℕ) (holds : List Hold) (told : List Heard)
     (marks : List ℕ) → Keeps tree most_told acts most_holds most_rows → IsAhead told (walk tree told) ahead.Act →
     length holds + length marks + (most_holds - room_spent told) ≤ most_holds →
-    Enters seat (framed seat (walk tree told) holds marks) tree acts holds told mode.Body told marks
+    Enters seat tree acts holds told marks mode.Body told marks
 enters_act seat tree acts holds told marks law is room = record {
-  left = ap (λ (t : RequestTree). framed seat t holds marks) (ahead_act told (walk tree told) is);
+  left = inl (ap (λ (t : RequestTree). framed seat t holds marks) (ahead_act told (walk tree told) is));
   ready = refl;
   tells = refl;
   acts_are = omega arith;
@@ -64,14 +69,14 @@ enters_act seat tree acts holds told marks law is room = record {
 
 -- where it is answered, whatever happens to what it was told
 pub enters_over : (seat : HostSeat) (tree : RequestTree) (acts : ℕ) (holds : List Hold) (told new : List Heard)
-    (marks : List ℕ) (at : Mode) (grammar : Grammar) →
-    ((tree : RequestTree) (marks : List ℕ) → mode_left seat at tree holds marks ≡ grammar) →
+    (marks : List ℕ) (at : Mode) →
+    ((other : RequestTree) → GoesOrEnds seat (walk tree told) holds marks (mode_left seat at other holds marks)) →
     ((marks : List ℕ) → is_ready at holds marks ≡ true) → Tells at None →
     ((count : ℕ) → mode_counts at count ≡ 0) → ((acts told : ℕ) → Stays at acts told) →
     length holds + length marks + (most_holds - room_spent told) ≤ most_holds →
-    Enters seat grammar tree acts holds told at new marks
-enters_over seat tree acts holds told new marks at grammar left ready tells counts stays room = record {
-  left = left (walk tree new) marks;
+    Enters seat tree acts holds told marks at new marks
+enters_over seat tree acts holds told new marks at left ready tells counts stays room = record {
+  left = left (walk tree new);
   ready = ready marks;
   tells = tells;
   acts_are = rw (counts (acts - acts_spent new)) (omega arith);
@@ -106,33 +111,42 @@ pub enters_gives : (seat : HostSeat) (tree : RequestTree) (acts : ℕ) (holds : 
     ((marks : List ℕ) → is_ready at holds marks ≡ true) → Tells at None →
     ((count : ℕ) → mode_counts at count ≡ 0) → ((acts told : ℕ) → Stays at acts told) →
     length holds + length marks + (most_holds - room_spent told) ≤ most_holds →
-    Enters seat (framed seat (walk tree told) holds marks) tree acts holds told at new marks
+    Enters seat tree acts holds told marks at new marks
 enters_gives seat tree acts holds told new marks at last e left ready tells counts stays room =
     let same = gives_left seat told (walk tree told) last holds marks e in
-    enters_over seat tree acts holds told new marks at (framed seat (walk tree told) holds marks)
-    (λ other between. left other between ∙ sym same) ready tells counts stays room
+    enters_over seat tree acts holds told new marks at (λ other. inl (left other marks ∙ sym same)) ready tells counts
+    stays room
 
 pub enters_refuses : (seat : HostSeat) (tree : RequestTree) (acts : ℕ) (holds : List Hold) (told : List Heard)
     (marks : List ℕ) (last : Answer) → IsAhead told (walk tree told) (ahead.Refuses last) →
     length holds + length marks + (most_holds - room_spent told) ≤ most_holds →
-    Enters seat (framed seat (walk tree told) holds marks) tree acts holds told (mode.Leave (finish.Answer last)) told
+    Enters seat tree acts holds told marks (mode.Leave (finish.Answer last)) told
     marks
 enters_refuses seat tree acts holds told marks last is room =
     let same = refuses_left seat told (walk tree told) last holds marks is in
-    enters_over seat tree acts holds told told marks (mode.Leave (finish.Answer last))
-    (framed seat (walk tree told) holds marks) (λ other between. sym same) (λ between. refl) (told_uncut last)
+    enters_over seat tree acts holds told told marks (mode.Leave (finish.Answer last)) (λ other. inl (sym same))
+    (λ between. refl) (told_uncut last) (λ count. refl) (λ count other. tt) room
+
+-- where memory ran out for what it makes
+pub enters_ends : (seat : HostSeat) (tree : RequestTree) (acts : ℕ) (holds : List Hold) (told : List Heard)
+    (marks : List ℕ) → IsAhead told (walk tree told) ahead.GivesUp →
+    length holds + length marks + (most_holds - room_spent told) ≤ most_holds →
+    Enters seat tree acts holds told marks (mode.Leave (finish.Answer answer.NoMemory)) told marks
+enters_ends seat tree acts holds told marks is room =
+    enters_over seat tree acts holds told told marks (mode.Leave (finish.Answer answer.NoMemory))
+    (λ other. inr (ahead_ends told (walk tree told) is, refl)) (λ between. refl) (told_uncut answer.NoMemory)
     (λ count. refl) (λ count other. tt) room
 
 -- where scopes end, or a bracket
 pub enters_bares : (seat : HostSeat) (tree : RequestTree) (acts : ℕ) (holds : List Hold) (told : List Heard)
     (marks : List ℕ) → Keeps tree most_told acts most_holds most_rows → IsAhead told (walk tree told) ahead.Bares →
     tops holds ≡ true → length holds + length marks + (most_holds - room_spent told) ≤ most_holds →
-    Enters seat (framed seat (walk tree told) holds marks) tree acts holds told mode.Bares told marks
+    Enters seat tree acts holds told marks mode.Bares told marks
 enters_bares seat tree acts holds told marks law is top room =
     let e = ahead_bares told (walk tree told) is in
     let more : 1 ≤ most_told - length told = bares_keeps (walk tree told) _ _ _ _ _ e (left_keeps tree acts told law) in
     record {
-      left = sym (ap (λ (t : RequestTree). framed seat t holds marks) e);
+      left = inl (sym (ap (λ (t : RequestTree). framed seat t holds marks) e));
       ready = top;
       tells = refl;
       acts_are = omega arith;
@@ -145,13 +159,13 @@ pub enters_shuts : (seat : HostSeat) (tree : RequestTree) (acts : ℕ) (holds : 
     (marks : List ℕ) (passes : Bool) → Keeps tree most_told acts most_holds most_rows →
     IsAhead told (walk tree told) (ahead.Shuts passes) → is_above passes holds marks ≡ true →
     length holds + length marks + (most_holds - room_spent told) ≤ most_holds →
-    Enters seat (framed seat (walk tree told) holds marks) tree acts holds told (mode.Shuts passes) told marks
+    Enters seat tree acts holds told marks (mode.Shuts passes) told marks
 enters_shuts seat tree acts holds told marks passes law is above room =
     let e = ahead_shuts told (walk tree told) passes is in
     let more : 1 ≤ most_told - length told =
     shuts_keeps (walk tree told) _ passes _ _ _ _ e (left_keeps tree acts told law) in
     record {
-      left = sym (ap (λ (t : RequestTree). framed seat t holds marks) e);
+      left = inl (sym (ap (λ (t : RequestTree). framed seat t holds marks) e));
       ready = above;
       tells = refl;
       acts_are = omega arith;
@@ -176,6 +190,8 @@ passes_bares seat tree acts holds told marks law is top room =
       same = ap (λ (t : RequestTree). framed seat t holds marks) (walk_more tree told heard.Bares)
           ∙ sym (bare_done seat holds (bares_left seat (walk tree told) marks) top)
           ∙ sym (ap (λ (t : RequestTree). framed seat t holds marks) e);
+      spares = ap allocates (walk_more tree told heard.Bares)
+          ∙ bares_spare (walk tree told) _ _ _ _ (left_keeps tree acts told law);
       longer = longer_by told heard.Bares;
       within = omega (arith, more);
       acts_same = omega (arith, spent.0);
@@ -195,6 +211,8 @@ passes_brackets seat tree acts holds told marks law is room =
     record {
       same = ap (λ (t : RequestTree). framed seat t holds (length holds ∷ marks)) (walk_more tree told heard.Brackets)
           ∙ sym (ap (λ (t : RequestTree). framed seat t holds marks) e);
+      spares = ap allocates (walk_more tree told heard.Brackets)
+          ∙ brackets_spare (walk tree told) _ _ _ _ (left_keeps tree acts told law);
       longer = longer_by told heard.Brackets;
       within = omega (arith, more.0);
       acts_same = omega (arith, spent.0);
@@ -210,6 +228,29 @@ brackets_fit tree acts holds told marks law is room =
     let e = ahead_brackets told (walk tree told) is in
     let more = brackets_keeps (walk tree told) _ _ _ _ _ e (left_keeps tree acts told law) in
     omega (arith, more.1, room)
+
+-- what is made is kept
+pub passes_makes : (seat : HostSeat) (tree : RequestTree) (acts : ℕ) (holds : List Hold) (told : List Heard)
+    (marks : List ℕ) (made : Product) → Keeps tree most_told acts most_holds most_rows →
+    IsAhead told (walk tree told) (ahead.Makes made) →
+    length holds + length marks + (most_holds - room_spent told) ≤ most_holds →
+    Passes seat tree holds told marks (told ++ (heard.Kept made ∷ [])) marks
+passes_makes seat tree acts holds told marks made law is room =
+    let so = ahead_makes told (walk tree told) made is in
+    let more = makes_keeps (walk tree told) made so.next _ _ _ _ so.tree_is (left_keeps tree acts told law) in
+    let spent = spent_more told (heard.Kept made) in
+    let onward : walk tree (told ++ (heard.Kept made ∷ [])) ≡ so.next made =
+    walk_more tree told (heard.Kept made) ∙ so.then_is in
+    record {
+      same = ap (λ (t : RequestTree). framed seat t holds marks) onward
+          ∙ sym (ap (λ (t : RequestTree). framed seat t holds marks) so.tree_is);
+      spares = ap allocates onward ∙ more.1 made;
+      longer = longer_by told (heard.Kept made);
+      within = omega (arith, more.0);
+      acts_same = omega (arith, spent.0);
+      rows_same = omega (arith, spent.2);
+      room = omega (arith, spent.1, room);
+    }
 
 outer_less : (marks : List ℕ) → length (outer marks) ≤ length marks
 outer_less [] = omega arith
@@ -230,6 +271,8 @@ passes_shuts seat tree acts holds told marks passes law is above room =
       same = ap (λ (t : RequestTree). framed seat t holds (outer marks)) (walk_more tree told heard.Shuts)
           ∙ sym (shut_done seat passes (mark_in marks) holds (shuts_left seat (walk tree told) marks) above)
           ∙ sym (ap (λ (t : RequestTree). framed seat t holds marks) e);
+      spares = ap allocates (walk_more tree told heard.Shuts)
+          ∙ shuts_spare (walk tree told) _ _ _ _ (left_keeps tree acts told law);
       longer = longer_by told heard.Shuts;
       within = omega (arith, more);
       acts_same = omega (arith, spent.0);
@@ -237,13 +280,25 @@ passes_shuts seat tree acts holds told marks passes law is above room =
       room = omega (arith, spent.1, room, less);
     }
 
+-- behind a mark it does not give up
+pub goes_still : (seat : HostSeat) (tree : RequestTree) (holds : List Hold) (marks : List ℕ) (left : Grammar) →
+    allocates tree ≡ false → GoesOrEnds seat tree holds marks left → left ≡ framed seat tree holds marks
+goes_still seat tree holds marks left none (inl e) = e
+goes_still seat tree holds marks left none (inr up) = let takes = up.0 in absurd (cc)
+
+goes_before : (seat : HostSeat) (tree mid : RequestTree) (holds : List Hold) (marks between : List ℕ)
+    (left : Grammar) → framed seat mid holds between ≡ framed seat tree holds marks → allocates mid ≡ false →
+    GoesOrEnds seat mid holds between left → GoesOrEnds seat tree holds marks left
+goes_before seat tree mid holds marks between left same none goes =
+    inl (goes_still seat mid holds between left none goes ∙ same)
+
 -- and then the request goes on
 pub then_enters : (seat : HostSeat) (tree : RequestTree) (acts : ℕ) (holds : List Hold) (told mid new : List Heard)
     (marks between marks' : List ℕ) (at : Mode) → Passes seat tree holds told marks mid between →
-    Enters seat (framed seat (walk tree mid) holds between) tree acts holds mid at new marks' →
-    Enters seat (framed seat (walk tree told) holds marks) tree acts holds told at new marks'
+    Enters seat tree acts holds mid between at new marks' →
+    Enters seat tree acts holds told marks at new marks'
 then_enters seat tree acts holds told mid new marks between marks' at passes enters = record {
-  left = enters.left ∙ passes.same;
+  left = goes_before seat (walk tree told) (walk tree mid) holds marks between _ passes.same passes.spares enters.left;
   ready = enters.ready;
   tells = enters.tells;
   acts_are = omega (arith, enters.acts_are, passes.acts_same);
@@ -261,21 +316,6 @@ reply_walk (Asks deed more) wanted None reply may asks is =
     rw (same, same_is (brings_of deed)) refl
 reply_walk (Opens call scope more) wanted (Some laid) reply may asks is = rw is refl
 reply_walk tree wanted opens reply may asks is = absurd asks
-
-asked_spares : (tree : RequestTree) (wanted : Act) (opens : Option Hold) (reply : ActReply)
-    (told acts room rows : ℕ) → AsksFor tree wanted opens → Keeps tree told acts room rows →
-    allocates (asked tree reply) ≡ false
-asked_spares (Asks deed more) wanted None reply zero acts room rows asks is = absurd is
-asked_spares (Asks deed more) wanted None reply (suc told) acts room rows asks is =
-    let after = act_after (brings_of deed) acts room rows (λ acts' room' rows'.
-    (reply : ActReply) → Keeps (more reply) told acts' room' rows') is in
-    keeps_spares (more reply) _ _ _ _ (after reply)
-asked_spares (Opens call scope more) wanted (Some laid) reply zero acts room rows asks is = absurd is
-asked_spares (Opens call scope more) wanted (Some laid) reply (suc told) acts room rows asks is =
-    let after = act_after brings.Hold acts room rows (λ acts' room' rows'.
-    (reply : ActReply) → Keeps (more reply) told acts' room' rows') is in
-    keeps_spares (more reply) _ _ _ _ (after reply)
-asked_spares tree wanted opens reply told acts room rows asks is = absurd asks
 
 -- a row that is told of is one that the change may bring
 added_rows : (asked : Change) (reply : EventReply) → added_by asked reply ≤ rows_in (change_brings asked)
@@ -333,8 +373,7 @@ pub record Goes (seat : HostSeat) (tree : RequestTree) (acts : ℕ) (holds held 
 pub goes_on : (seat : HostSeat) (tree : RequestTree) (acts : ℕ) (holds held : List Hold) (told new : List Heard)
     (marks marks' : List ℕ) (reply : ActReply) (count : ℕ) (may : Brings) (at : Mode) →
     Keeps tree most_told acts most_holds most_rows → WasHeard (walk tree told) reply holds held count may →
-    Enters seat (framed seat (walk tree (told ++ (heard.Reply reply may ∷ []))) held marks) tree acts held
-    (told ++ (heard.Reply reply may ∷ [])) at new marks' →
+    Enters seat tree acts held (told ++ (heard.Reply reply may ∷ [])) marks at new marks' →
     Goes seat tree acts holds held told new marks marks' reply count at
 goes_on seat tree acts holds held told new marks marks' reply count may at law h enters =
     let there = walk tree told in
@@ -349,9 +388,9 @@ goes_on seat tree acts holds held told new marks marks' reply count may at law h
     let next = walk_more tree told (heard.Reply reply may)
     ∙ reply_walk there h.wanted h.opens reply may h.asks h.may_be in
     record {
-      left = rw is (body_went seat there h.wanted h.opens reply holds held marks count _ h.asks
-          (asked_spares there h.wanted h.opens reply _ _ _ _ h.asks keeps) h.held h.closings
-          (enters.left ∙ ap (λ (t : RequestTree). framed seat t held marks) next));
+      left = rw is (body_went seat there h.wanted h.opens reply holds held marks count _ h.asks h.held h.closings
+          (subst (λ (t : RequestTree). GoesOrEnds seat t held marks
+          (mode_left seat at (walk tree new) held marks')) next enters.left));
       tells = rw is (h.closings ∙ asks_closings seat there h.wanted h.opens reply holds marks h.asks);
       fewer = omega (arith, enters.acts_are, spent.0, cost, same, h.length_is, fits.affords.acts_go);
       rows = rw is (omega (arith, enters.rows_are, spent.2, rows, put, fits.affords.rows_are));
@@ -360,13 +399,16 @@ goes_on seat tree acts holds held told new marks marks' reply count may at law h
 -- a hold was given back at a mark at which nothing is left to be given back
 pub gave_bares : (seat : HostSeat) (tree : RequestTree) (acts : ℕ) (holds : List Hold) (told new : List Heard)
     (marks marks' : List ℕ) (at : Mode) (lost : Option Errno) → tops holds ≡ false →
-    Enters seat (framed seat (walk tree (told ++ (heard.Bares ∷ []))) holds marks) tree acts holds
-    (told ++ (heard.Bares ∷ [])) at new marks' → lost ≡ None →
+    Keeps tree most_told acts most_holds most_rows →
+    Enters seat tree acts holds (told ++ (heard.Bares ∷ [])) marks at new marks' → lost ≡ None →
     Gave seat tree acts holds mode.Bares told marks lost at new marks'
-gave_bares seat tree acts holds told new marks marks' at lost top enters none =
+gave_bares seat tree acts holds told new marks marks' at lost top law enters none =
     let spent = spent_more told heard.Bares in
+    let more = walk_more tree told heard.Bares in
+    let none_taken = ap allocates more ∙ bares_spare (walk tree told) _ _ _ _ (left_keeps tree acts told law) in
     record {
-      left = enters.left ∙ ap (λ (t : RequestTree). framed seat t holds marks) (walk_more tree told heard.Bares)
+      left = goes_still seat (walk tree (told ++ (heard.Bares ∷ []))) holds marks _ none_taken enters.left
+          ∙ ap (λ (t : RequestTree). framed seat t holds marks) more
           ∙ sym (bare_done seat holds (bares_left seat (walk tree told) marks) top);
       ready = enters.ready;
       tells = subst (λ (x : Option Errno). Tells at (or_first None x)) (sym none) enters.tells;
@@ -378,14 +420,16 @@ gave_bares seat tree acts holds told new marks marks' at lost top enters none =
 
 pub gave_shuts : (seat : HostSeat) (tree : RequestTree) (acts : ℕ) (holds : List Hold) (told new : List Heard)
     (marks marks' : List ℕ) (at : Mode) (passes : Bool) (lost : Option Errno) → is_above passes holds marks ≡ false →
-    Enters seat (framed seat (walk tree (told ++ (heard.Shuts ∷ []))) holds (outer marks)) tree acts holds
-    (told ++ (heard.Shuts ∷ [])) at new marks' → lost ≡ None →
+    Keeps tree most_told acts most_holds most_rows →
+    Enters seat tree acts holds (told ++ (heard.Shuts ∷ [])) (outer marks) at new marks' → lost ≡ None →
     Gave seat tree acts holds (mode.Shuts passes) told marks lost at new marks'
-gave_shuts seat tree acts holds told new marks marks' at passes lost above enters none =
+gave_shuts seat tree acts holds told new marks marks' at passes lost above law enters none =
     let spent = spent_more told heard.Shuts in
+    let more = walk_more tree told heard.Shuts in
+    let none_taken = ap allocates more ∙ shuts_spare (walk tree told) _ _ _ _ (left_keeps tree acts told law) in
     record {
-      left = enters.left
-          ∙ ap (λ (t : RequestTree). framed seat t holds (outer marks)) (walk_more tree told heard.Shuts)
+      left = goes_still seat (walk tree (told ++ (heard.Shuts ∷ []))) holds (outer marks) _ none_taken enters.left
+          ∙ ap (λ (t : RequestTree). framed seat t holds (outer marks)) more
           ∙ sym (shut_done seat passes (mark_in marks) holds (shuts_left seat (walk tree told) marks) above);
       ready = enters.ready;
       tells = subst (λ (x : Option Errno). Tells at (or_first None x)) (sym none) enters.tells;

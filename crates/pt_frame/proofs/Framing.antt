@@ -9,19 +9,19 @@ use Rattle.pt_iface.specs.declared.answer.Answer.{Answer}
 use Rattle.pt_iface.specs.declared.answer.Answer.TheVariants as answer
 use Rattle.pt_frame.specs.Deed.{Deed, deed_of}
 use Rattle.pt_frame.specs.Held.{held, opened, is_scope}
-use Rattle.pt_frame.specs.Replies.{closings_in, inserted_by, fault_if, refusal, restored, is_cut}
+use Rattle.pt_frame.specs.Replies.{closings_in, fault_if, refusal, restored, is_cut}
 use Rattle.pt_frame.specs.Grammar.{Grammar, End, Do, owing, owed_by, is_end, after, IsChosen, IsDo, IsSettled}
 use Rattle.pt_frame.specs.Grammar.{restores, told_closings, told_inserted, Wants}
 use Rattle.pt_frame.specs.Frame.{giving, closings, leave, or_lost, bare, bare_one, shut, front, behind, under}
 use Rattle.pt_frame.specs.Frame.{mark_in}
-use Rattle.pt_frame.specs.Frame.{outer, cut, close_first}
+use Rattle.pt_frame.specs.Frame.{cut, close_first}
 use Rattle.pt_frame.specs.Past.{or_first}
 use Rattle.pt_frame.specs.Tree.{RequestTree, Asks, Opens, Gives, Refuses, Bares, Brackets, Shuts, Allocates, framed}
 use Rattle.pt_frame.specs.Tree.{allocates, or_gives_up}
-use Rattle.pt_frame.specs.Machine.Brings.{act_brings, act_may, brings_of, deed_brings, holds_in}
-use Rattle.pt_frame.specs.Machine.Walk.{IsAsks, AsksFor, asked, asking, deed_in, elsewhere, told_on, walk}
+use Rattle.pt_frame.specs.Machine.Walk.{IsAsks, AsksFor, asked, asking, deed_in, elsewhere, walk}
+use Rattle.pt_frame.specs.Machine.Enters.{GoesOrEnds}
 use Rattle.pt_frame.specs.Machine.Left.{held_by, tops, bares_left, shuts_left, mode_left, left_of}
-use Rattle.pt_frame.specs.Machine.Left.{given_left, passes_at, is_above}
+use Rattle.pt_frame.specs.Machine.Left.{given_left, passes_at}
 use Rattle.pt_frame.specs.Machine.Left.{is_ready, is_over, is_all_over, is_giving_scope, is_restoring_now, IsTold}
 use Rattle.pt_frame.specs.Machine.Left.{NoneUnless, Tells, end_of}
 use Rattle.pt_frame.specs.declared.act.Act.{Act}
@@ -33,7 +33,6 @@ use Rattle.pt_frame.specs.declared.finish.Finish.TheVariants as finish
 use Rattle.pt_frame.specs.declared.hold.Hold.{Hold}
 use Rattle.pt_frame.specs.declared.hold.Taken.{Taken}
 use Rattle.pt_frame.specs.declared.hold.Taken.TheVariants as taken
-use Rattle.pt_frame.specs.declared.told.Heard.TheVariants as heard
 use Rattle.pt_frame.specs.declared.machine.mode.Mode.{Mode}
 use Rattle.pt_frame.specs.declared.machine.mode.Mode.TheVariants as mode
 
@@ -150,37 +149,50 @@ given_step seat at tree one holds new marks told passes scope wanted fault count
     ∙ ap (λ (x : Option Errno). closings count new (given_left seat at x tree new marks)) (sym l')
     ∙ ap (closings count new) (sym is)
 
--- what follows a reply that takes no memory to go on with
-told_follows : (seat : HostSeat) (count : ℕ) (holds : List Hold) (marks : List ℕ) (next : RequestTree) (told : ActReply)
-    (rest : Grammar) → allocates next ≡ false → rest ≡ framed seat next holds marks →
+-- what follows a reply: it goes on, or gives up where it takes memory
+told_follows : (seat : HostSeat) (count : ℕ) (holds : List Hold) (marks : List ℕ) (next : RequestTree)
+    (rest : Grammar) → GoesOrEnds seat next holds marks rest →
     IsChosen (or_gives_up (allocates next)
     (closings count holds (leave seat holds (finish.Answer answer.NoMemory)))
     (closings count holds (framed seat next holds marks))) (closings count holds rest)
-told_follows seat count holds marks next told rest e is = rw e (inl (ap (closings count holds) is))
+told_follows seat count holds marks next rest goes = by (allocates next) refl goes
+  where
+    up : Grammar
+    up = closings count holds (leave seat holds (finish.Answer answer.NoMemory))
+
+    on : Grammar
+    on = closings count holds (framed seat next holds marks)
+
+    by : (b : Bool) → allocates next ≡ b → GoesOrEnds seat next holds marks rest →
+        IsChosen (or_gives_up b up on) (closings count holds rest)
+    by true e (inl is) = inr (inl (ap (closings count holds) is))
+    by false e (inl is) = inl (ap (closings count holds) is)
+    by true e (inr gives) = inr (inr (ap (closings count holds) gives.1))
+    by false e (inr gives) = let takes = gives.0 in absurd (cc)
 
 -- a step of the body, and what is left behind it
 pub body_went : (seat : HostSeat) (tree : RequestTree) (wanted : Act) (opens : Option Hold) (told : ActReply)
     (holds new : List Hold) (marks : List ℕ) (count : ℕ) (rest : Grammar) → AsksFor tree wanted opens →
-    allocates (asked tree told) ≡ false → new ≡ held_by (deed_of wanted) opens told holds →
-    count ≡ closings_in (deed_of wanted) told → rest ≡ framed seat (asked tree told) new marks →
+    new ≡ held_by (deed_of wanted) opens told holds → count ≡ closings_in (deed_of wanted) told →
+    GoesOrEnds seat (asked tree told) new marks rest →
     IsChosen (after told (framed seat tree holds marks)) (closings count new rest)
-body_went seat (Asks deed more) wanted None told holds new marks count rest asks gives h n l =
+body_went seat (Asks deed more) wanted None told holds new marks count rest asks h n l =
     let h' : new ≡ held deed told holds = h ∙ ap (λ (d : Deed). held d told holds) asks in
     let n' : count ≡ closings_in deed told = n ∙ ap (λ (d : Deed). closings_in d told) asks in
     subst (λ (k : ℕ). IsChosen (after told (framed seat (Asks deed more) holds marks)) (closings k new rest)) (sym n')
-    (subst (λ (x : List Hold). rest ≡ framed seat (more told) x marks →
+    (subst (λ (x : List Hold). GoesOrEnds seat (more told) x marks rest →
     IsChosen (after told (framed seat (Asks deed more) holds marks)) (closings (closings_in deed told) x rest))
     (sym h')
-    (λ e. told_follows seat (closings_in deed told) (held deed told holds) marks (more told) told rest gives e) l)
-body_went seat (Opens call scope more) wanted (Some laid) told holds new marks count rest asks gives h n l =
+    (λ e. told_follows seat (closings_in deed told) (held deed told holds) marks (more told) rest e) l)
+body_went seat (Opens call scope more) wanted (Some laid) told holds new marks count rest asks h n l =
     let h' : new ≡ opened scope told holds = h ∙ ap (λ (x : Hold). opened x told holds) asks.1 in
     let n' : count ≡ 0 = n ∙ ap (λ (d : Deed). closings_in d told) asks.0 in
     subst (λ (k : ℕ). IsChosen (after told (framed seat (Opens call scope more) holds marks)) (closings k new rest))
     (sym n')
-    (subst (λ (x : List Hold). rest ≡ framed seat (more told) x marks →
+    (subst (λ (x : List Hold). GoesOrEnds seat (more told) x marks rest →
     IsChosen (after told (framed seat (Opens call scope more) holds marks)) (closings 0 x rest)) (sym h')
-    (λ e. told_follows seat 0 (opened scope told holds) marks (more told) told rest gives e) l)
-body_went seat tree wanted opens told holds new marks count rest asks gives h n l = absurd asks
+    (λ e. told_follows seat 0 (opened scope told holds) marks (more told) rest e) l)
+body_went seat tree wanted opens told holds new marks count rest asks h n l = absurd asks
 
 -- one that asks nothing by this plan is refused
 pub elsewhere_went : (seat : HostSeat) (reply : ActReply) (holds : List Hold) (marks : List ℕ) →
@@ -215,7 +227,7 @@ asking_asks (Refuses reply) = tt
 asking_asks (Bares rest) = tt
 asking_asks (Brackets rest) = tt
 asking_asks (Shuts passes rest) = tt
-asking_asks (Allocates rest) = tt
+asking_asks (Allocates made next) = tt
 
 pub for_asks : (tree : RequestTree) (wanted : Act) (opens : Option Hold) → AsksFor tree wanted opens → IsAsks tree
 for_asks (Asks deed more) wanted opens asks = tt
@@ -499,6 +511,13 @@ told_end taken.Nothing zero (mode.Out last) holds lost e t = none_unless (is_cut
 told_end taken.Nothing zero (mode.Leave last) holds lost e t = t
 
 -- what is wanted is what gives the next one back
+-- while the request goes on it is its own act that is wanted
+pub body_wants : (seat : HostSeat) (tree : RequestTree) (holds : List Hold) (marks : List ℕ) (act : Act) →
+    deed_of act ≡ deed_in (asking tree) → Wants (mode_left seat mode.Body tree holds marks) (want.Step act)
+body_wants seat (Asks deed more) holds marks act is = is
+body_wants seat (Opens call scope more) holds marks act is = is
+body_wants seat tree holds marks act is = is
+
 pub gives_wanted : (seat : HostSeat) (at : Mode) (tree : RequestTree) (holds : List Hold) (marks : List ℕ)
     (one : Hold) (rest : List Hold) (act : Act) → at ≢ mode.Body → is_ready at holds marks ≡ true →
     behind (passes_at at) holds ≡ one ∷ rest → deed_of act ≡ giving seat one →

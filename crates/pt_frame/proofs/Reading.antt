@@ -1,6 +1,7 @@
 -- How a request is read over what it was told.
 use Rattle.std.proofs.Common.{◌≡◌, ◌≢◌, ℕ, ◌+◌, Bool, true, false, List, [], ◌∷◌, zero, suc, ◌<◌, ◌≤◌, length, get_or}
-use Rattle.std.proofs.Common.{slice_get, Option, Some, None, Result, Ok, Err, refl, ◌∙◌, sym, subst, add-one, arith, Bor}
+use Rattle.std.proofs.Common.{slice_get, Option, Some, None, Result, Ok, Err, refl, ◌∙◌, sym, subst, add-one, arith}
+use Rattle.std.proofs.Common.{Bor}
 use Rattle.pt_host.specs.Call.{Call}
 use Rattle.pt_host.specs.Errno.{eio}
 use Rattle.pt_iface.specs.declared.answer.Answer.{Answer}
@@ -9,7 +10,11 @@ use Rattle.pt_frame.specs.Deed.{Deed, Calls, deed_of}
 use Rattle.pt_frame.specs.Tree.{RequestTree, Gives, Refuses, Asks, Opens, Bares, Brackets, Shuts, Allocates, on, go_on}
 use Rattle.pt_frame.specs.Machine.Brings.{brings_of, is_same}
 use Rattle.pt_frame.specs.Machine.Walk.{walk, told_on, or_astray, astray, unread, IsStop, IsRead, GoesOn, Reads}
-use Rattle.pt_frame.specs.Machine.Walk.{HasBytes, bytes_in, moved_as, reply_in}
+use Rattle.pt_frame.specs.Machine.Walk.{HasFor, IsWithEntries, bytes_in, entries_in, moved_in, reply_in}
+use Rattle.pt_frame.specs.Tree.{by_bytes, by_entries, make_bytes, make_entries}
+use Rattle.pt_iface.specs.declared.directory.DirEntry.{DirEntry}
+use Rattle.pt_frame.specs.declared.product.Product.{Product}
+use Rattle.pt_frame.specs.declared.product.Product.TheVariants as product
 use Rattle.pt_frame.specs.Replies.{bytes_of}
 use Rattle.pt_frame.specs.declared.act.Act.{Act}
 use Rattle.pt_frame.specs.declared.act.ActReply.{ActReply}
@@ -69,6 +74,7 @@ bytes_there (Some (told.Reply same may)) reply bytes is has =
 bytes_there (Some told.Bares) reply bytes is has = absurd (cc)
 bytes_there (Some told.Brackets) reply bytes is has = absurd (cc)
 bytes_there (Some told.Shuts) reply bytes is has = absurd (cc)
+bytes_there (Some (told.Kept kept)) reply bytes is has = absurd (cc)
 
 -- what the tree is where something was told
 walk_past : (all : List Heard) (old new : ℕ) (it : Heard) (tree : RequestTree) → IsRead all old new (Some it) →
@@ -131,6 +137,8 @@ strays all old new told.Bares deed more next is other = stray all old new told.B
 strays all old new told.Brackets deed more next is other =
     stray all old new told.Brackets (Asks deed more) next is refl
 strays all old new told.Shuts deed more next is other = stray all old new told.Shuts (Asks deed more) next is refl
+strays all old new (told.Kept kept) deed more next is other =
+    stray all old new (told.Kept kept) (Asks deed more) next is refl
 
 -- a call that opens a scope likewise
 pub opens : {U : Type 0} (all : List Heard) (old new : ℕ) (call : Call) (scope : Hold) (more : ActReply → RequestTree)
@@ -166,6 +174,8 @@ strays_open all old new told.Brackets call scope more next is other =
     stray all old new told.Brackets (Opens call scope more) next is refl
 strays_open all old new told.Shuts call scope more next is other =
     stray all old new told.Shuts (Opens call scope more) next is refl
+strays_open all old new (told.Kept kept) call scope more next is other =
+    stray all old new (told.Kept kept) (Opens call scope more) next is refl
 
 -- marks
 
@@ -182,10 +192,12 @@ bares_past all old new rest value is = record { goes_on = walk_past all old new 
 pub bares_stray : {T : Type 0} (all : List Heard) (old new : ℕ) (rest : RequestTree) (it : Heard)
     (next : T → RequestTree) → IsRead all old new (Some it) → it ≢ told.Bares →
     Reads all old new (Err (stop.Gives (answer.Refused eio))) (Bares rest) next
-bares_stray all old new rest (told.Reply reply may) next is other = stray all old new (told.Reply reply may) (Bares rest) next is refl
+bares_stray all old new rest (told.Reply reply may) next is other =
+    stray all old new (told.Reply reply may) (Bares rest) next is refl
 bares_stray all old new rest told.Bares next is other = absurd (other refl)
 bares_stray all old new rest told.Brackets next is other = stray all old new told.Brackets (Bares rest) next is refl
 bares_stray all old new rest told.Shuts next is other = stray all old new told.Shuts (Bares rest) next is refl
+bares_stray all old new rest (told.Kept kept) next is other = stray all old new (told.Kept kept) (Bares rest) next is refl
 
 pub brackets_stop : {T : Type 0} (all : List Heard) (old new : ℕ) (rest : RequestTree) (next : T → RequestTree) →
     IsRead all old new None → Reads all old new (Err stop.Brackets) (Brackets rest) next
@@ -200,12 +212,15 @@ brackets_past all old new rest value is = record { goes_on = walk_past all old n
 pub brackets_stray : {T : Type 0} (all : List Heard) (old new : ℕ) (rest : RequestTree) (it : Heard)
     (next : T → RequestTree) → IsRead all old new (Some it) → it ≢ told.Brackets →
     Reads all old new (Err (stop.Gives (answer.Refused eio))) (Brackets rest) next
-brackets_stray all old new rest (told.Reply reply may) next is other = stray all old new (told.Reply reply may) (Brackets rest) next is refl
+brackets_stray all old new rest (told.Reply reply may) next is other =
+    stray all old new (told.Reply reply may) (Brackets rest) next is refl
 brackets_stray all old new rest told.Bares next is other = stray all old new told.Bares (Brackets rest) next is refl
 brackets_stray all old new rest told.Brackets next is other = absurd (other refl)
 brackets_stray all old new rest told.Shuts next is other = stray all old new told.Shuts (Brackets rest) next is refl
+brackets_stray all old new rest (told.Kept kept) next is other = stray all old new (told.Kept kept) (Brackets rest) next is refl
 
-pub shuts_stop : {T : Type 0} (all : List Heard) (old new : ℕ) (passes : Bool) (rest : RequestTree) (next : T → RequestTree) →
+pub shuts_stop : {T : Type 0} (all : List Heard) (old new : ℕ) (passes : Bool) (rest : RequestTree)
+    (next : T → RequestTree) →
     IsRead all old new None → Reads all old new (Err (stop.Shuts passes)) (Shuts passes rest) next
 unfolding GoesOn IsStop
 shuts_stop all old new passes rest next is = record { goes_on = rw (walk_end all old new (Shuts passes rest) is) refl }
@@ -213,15 +228,103 @@ shuts_stop all old new passes rest next is = record { goes_on = rw (walk_end all
 pub shuts_past : {T : Type 0} (all : List Heard) (old new : ℕ) (passes : Bool) (rest : RequestTree) (value : T) →
     IsRead all old new (Some told.Shuts) → Reads all old new (Ok value) (Shuts passes rest) (λ done. rest)
 unfolding GoesOn
-shuts_past all old new passes rest value is = record { goes_on = walk_past all old new told.Shuts (Shuts passes rest) is }
+shuts_past all old new passes rest value is =
+    record { goes_on = walk_past all old new told.Shuts (Shuts passes rest) is }
 
 pub shuts_stray : {T : Type 0} (all : List Heard) (old new : ℕ) (passes : Bool) (rest : RequestTree) (it : Heard)
     (next : T → RequestTree) → IsRead all old new (Some it) → it ≢ told.Shuts →
     Reads all old new (Err (stop.Gives (answer.Refused eio))) (Shuts passes rest) next
-shuts_stray all old new passes rest (told.Reply reply may) next is other = stray all old new (told.Reply reply may) (Shuts passes rest) next is refl
-shuts_stray all old new passes rest told.Bares next is other = stray all old new told.Bares (Shuts passes rest) next is refl
-shuts_stray all old new passes rest told.Brackets next is other = stray all old new told.Brackets (Shuts passes rest) next is refl
+shuts_stray all old new passes rest (told.Reply reply may) next is other =
+    stray all old new (told.Reply reply may) (Shuts passes rest) next is refl
+shuts_stray all old new passes rest told.Bares next is other =
+    stray all old new told.Bares (Shuts passes rest) next is refl
+shuts_stray all old new passes rest told.Brackets next is other =
+    stray all old new told.Brackets (Shuts passes rest) next is refl
 shuts_stray all old new passes rest told.Shuts next is other = absurd (other refl)
+shuts_stray all old new passes rest (told.Kept kept) next is other = stray all old new (told.Kept kept) (Shuts passes rest) next is refl
+
+-- what is made
+
+pub makes : {T : Type 0} (all : List Heard) (old new : ℕ) (made same : Product) (more : Product → RequestTree)
+    (next : T → RequestTree) → IsRead all old new None → same ≡ made →
+    Reads all old new (Err (stop.Makes same)) (Allocates made more) next
+unfolding GoesOn IsStop
+makes all old new made same more next is e =
+    record { goes_on = rw (walk_end all old new (Allocates made more) is) e }
+
+pub gives_up : {T : Type 0} (all : List Heard) (old new : ℕ) (made : Product) (more : Product → RequestTree)
+    (next : T → RequestTree) → IsRead all old new None → Reads all old new (Err stop.GivesUp) (Allocates made more) next
+unfolding GoesOn IsStop
+gives_up all old new made more next is = record { goes_on = rw (walk_end all old new (Allocates made more) is) tt }
+
+pub made_bytes : (all : List Heard) (old new : ℕ) (bytes made : List ℕ) (next : List ℕ → RequestTree) →
+    IsRead all old new (Some (told.Kept (product.Bytes bytes))) →
+    Reads all old new (Ok bytes) (make_bytes made next) next
+unfolding GoesOn
+made_bytes all old new bytes made next is = record {
+  goes_on = walk_past all old new (told.Kept (product.Bytes bytes)) (Allocates (product.Bytes made) (by_bytes next)) is;
+}
+
+pub made_entries : (all : List Heard) (old new : ℕ) (entries made : List DirEntry) (next : List DirEntry → RequestTree) →
+    IsRead all old new (Some (told.Kept (product.Entries entries))) →
+    Reads all old new (Ok (entries_in (slice_get all old))) (make_entries made next) next
+unfolding GoesOn IsRead
+made_entries all old new entries made next is = record {
+  goes_on = rw (is.1) (walk_past all old new (told.Kept (product.Entries entries))
+      (Allocates (product.Entries made) (by_entries next)) is);
+}
+
+pub bytes_lie : (all : List Heard) (old new : ℕ) (it : Heard) → IsRead all old new (Some it) →
+    slice_get all old ≡ Some it
+unfolding IsRead
+bytes_lie all old new it is = is.1
+
+pub entries_lie : (all : List Heard) (old new : ℕ) (entries : List DirEntry) →
+    IsRead all old new (Some (told.Kept (product.Entries entries))) → IsWithEntries (slice_get all old)
+unfolding IsRead
+entries_lie all old new entries is = rw (is.1) tt
+
+pub no_bytes : {T : Type 0} (all : List Heard) (old new : ℕ) (entries : List DirEntry) (made : List ℕ)
+    (more : List ℕ → RequestTree) (next : T → RequestTree) →
+    IsRead all old new (Some (told.Kept (product.Entries entries))) →
+    Reads all old new (Err (stop.Gives (answer.Refused eio))) (make_bytes made more) next
+no_bytes all old new entries made more next is =
+    stray all old new (told.Kept (product.Entries entries)) (make_bytes made more) next is refl
+
+pub no_entries : {T : Type 0} (all : List Heard) (old new : ℕ) (bytes : List ℕ) (made : List DirEntry)
+    (more : List DirEntry → RequestTree) (next : T → RequestTree) →
+    IsRead all old new (Some (told.Kept (product.Bytes bytes))) →
+    Reads all old new (Err (stop.Gives (answer.Refused eio))) (make_entries made more) next
+no_entries all old new bytes made more next is =
+    stray all old new (told.Kept (product.Bytes bytes)) (make_entries made more) next is refl
+
+made_stray : {T : Type 0} (all : List Heard) (old new : ℕ) (it : Heard) (made : Product)
+    (more : Product → RequestTree) (next : T → RequestTree) → IsRead all old new (Some it) →
+    ((kept : Product) → it ≢ told.Kept kept) →
+    Reads all old new (Err (stop.Gives (answer.Refused eio))) (Allocates made more) next
+made_stray all old new (told.Reply reply may) made more next is other =
+    stray all old new (told.Reply reply may) (Allocates made more) next is refl
+made_stray all old new told.Bares made more next is other =
+    stray all old new told.Bares (Allocates made more) next is refl
+made_stray all old new told.Brackets made more next is other =
+    stray all old new told.Brackets (Allocates made more) next is refl
+made_stray all old new told.Shuts made more next is other =
+    stray all old new told.Shuts (Allocates made more) next is refl
+made_stray all old new (told.Kept kept) made more next is other = absurd (other kept refl)
+
+pub bytes_stray : {T : Type 0} (all : List Heard) (old new : ℕ) (it : Heard) (made : List ℕ)
+    (more : List ℕ → RequestTree) (next : T → RequestTree) → IsRead all old new (Some it) →
+    ((kept : Product) → it ≢ told.Kept kept) →
+    Reads all old new (Err (stop.Gives (answer.Refused eio))) (make_bytes made more) next
+bytes_stray all old new it made more next is other =
+    made_stray all old new it (product.Bytes made) (by_bytes more) next is other
+
+pub entries_stray : {T : Type 0} (all : List Heard) (old new : ℕ) (it : Heard) (made : List DirEntry)
+    (more : List DirEntry → RequestTree) (next : T → RequestTree) → IsRead all old new (Some it) →
+    ((kept : Product) → it ≢ told.Kept kept) →
+    Reads all old new (Err (stop.Gives (answer.Refused eio))) (make_entries made more) next
+entries_stray all old new it made more next is other =
+    made_stray all old new it (product.Entries made) (by_entries more) next is other
 
 -- what is read of a reply
 pub on_value : {T : Type 0} (read : ActReply → Option T) (next : T → RequestTree) (reply : ActReply) (value : T) →
@@ -264,11 +367,11 @@ unfolding GoesOn IsStop
 gives all at last next = record { goes_on = rw (walk_gives last (unread at all)) refl }
 
 pub gives_moved : {U : Type 0} (all : List Heard) (at : ℕ) (what : Moved) (place : ℕ) (next : U → RequestTree) →
-    HasBytes all place →
-    Reads all at at (Err (stop.Moves what place)) (Gives (moved_as what (bytes_in (slice_get all place)))) next
+    HasFor what all place →
+    Reads all at at (Err (stop.Moves what place)) (Gives (moved_in what (slice_get all place))) next
 unfolding GoesOn IsStop
 gives_moved all at what place next has =
-    record { goes_on = rw (walk_gives (moved_as what (bytes_in (slice_get all place))) (unread at all)) (has, refl) }
+    record { goes_on = rw (walk_gives (moved_in what (slice_get all place)) (unread at all)) (has, refl) }
 
 -- from the beginning on
 pub ends : (all : List Heard) (new : ℕ) (last : Answer) (tree : RequestTree) → Reads all 0 new (Ok last) tree Gives →

@@ -181,7 +181,7 @@ takes_none lacked (Opens asked scope next) so = refl
 takes_none lacked (Bares rest) so = refl
 takes_none lacked (Brackets rest) so = refl
 takes_none lacked (Shuts passes rest) so = refl
-takes_none lacked (Allocates rest) so = absurd so
+takes_none lacked (Allocates made next) so = absurd so
 
 out_framed : (lacked : Bool) (seat : HostSeat) (tree : RequestTree) (holds : List Hold) (marks : List ℕ) →
     IsSparing lacked tree → OutOr (lacked ≡ true) (framed seat tree holds marks)
@@ -210,7 +210,7 @@ out_framed lacked seat (Brackets rest) holds marks so = out_framed lacked seat r
 out_framed lacked seat (Shuts passes rest) holds marks so =
     out_shut seat (front passes holds) (mark_in marks) (behind passes holds)
     (λ left. framed seat rest left (outer marks)) (λ left. out_framed lacked seat rest left (outer marks) so)
-out_framed lacked seat (Allocates rest) holds marks so = absurd so
+out_framed lacked seat (Allocates made next) holds marks so = absurd so
 
 pub ran_out : (seat : HostSeat) (tree : RequestTree) (steps : List Step) → IsSparing false tree →
     Belongs (framed seat tree [] []) steps (finish.Answer answer.NoMemory) → RanOut steps

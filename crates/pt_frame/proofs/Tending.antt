@@ -375,7 +375,7 @@ tended_framed seat (Shuts passes rest) holds marks worn w t =
     (λ c. tended_shut seat (front passes holds) (mark_in marks) (behind passes holds)
     (λ left. framed seat rest left (outer marks)) (wears_parted seat passes holds c)
     (λ left clear. tended_framed seat rest left (outer marks) [] clear t.1)) w
-tended_framed seat (Allocates rest) holds marks worn w t = tended_framed seat rest holds marks worn w t
+tended_framed seat (Allocates made next) holds marks worn w t = tended_framed seat (next made) holds marks worn w t
 
 -- a job may be cut wherever it stands
 cut_first : (seat : HostSeat) (brings : Taken) (count : ℕ) (holds : List Hold) (rest : Grammar) (worn : List Call) →

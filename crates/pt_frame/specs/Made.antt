@@ -17,21 +17,13 @@ use Rattle.pt_frame.specs.declared.act.ActReply.TheVariants.{Event, Host, NoCopy
 abbrev pub Makes : Type 0 → Type 1
 Makes A = A → Change → EventReply → A → Type 0
 
+-- from host, seats and access to others
+abbrev pub Transition : Type 0 → Type 0 → Type 0 → Type 1
+Transition H S A = H → S → A → H → S → A → Type 0
+
 -- The step led from host, seat and access to these, and nothing else changed. One that could not be copied was not
 -- made; where the reply alone could not be copied, it held bytes.
-abbrev pub MadeBy :
-    {H A : Type 0} →
-    (does : HostRelation H) →
-    (makes : Makes A) →
-    (deed : Option Deed) →
-    (reply : ActReply) →
-    (host : H) →
-    (seat : HostSeat) →
-    (access : A) →
-    (host' : H) →
-    (seat' : HostSeat) →
-    (access' : A) →
-    Type 0
+abbrev pub MadeBy : {H A : Type 0} → HostRelation H → Makes A → Option Deed → ActReply → Transition H HostSeat A
 MadeBy does makes (Some (Changes asked)) (Event reply) host seat access host' seat' access' =
     makes access asked reply access' × (host' ≡ host) × (seat' ≡ seat)
 MadeBy does makes (Some (Calls asked)) (Host reply) host seat access host' seat' access' =
@@ -43,18 +35,7 @@ MadeBy does makes None NoCopy host seat access host' seat' access' =
 MadeBy does makes deed reply host seat access host' seat' access' = ⊥
 
 -- the steps of one job, with no other step between, lead from host, seat and access to these
-abbrev pub RunsBy :
-    {H A : Type 0} →
-    (does : HostRelation H) →
-    (makes : Makes A) →
-    (steps : List Step) →
-    (host : H) →
-    (seat : HostSeat) →
-    (access : A) →
-    (host' : H) →
-    (seat' : HostSeat) →
-    (access' : A) →
-    Type 0
+abbrev pub RunsBy : {H A : Type 0} → HostRelation H → Makes A → List Step → Transition H HostSeat A
 RunsBy does makes [] host seat access host' seat' access' = (host' ≡ host) × (seat' ≡ seat) × (access' ≡ access)
 RunsBy {H} {A} does makes (step ∷ steps) host seat access host' seat' access' =
     (host1 : H) × (seat1 : HostSeat) × (access1 : A)
@@ -62,29 +43,8 @@ RunsBy {H} {A} does makes (step ∷ steps) host seat access host' seat' access' 
     × RunsBy does makes steps host1 seat1 access1 host' seat' access'
 
 -- over the session's own tables
-abbrev pub Made :
-    {H : Type 0} →
-    (does : HostRelation H) →
-    (deed : Option Deed) →
-    (reply : ActReply) →
-    (host : H) →
-    (seat : HostSeat) →
-    (tables : Tables) →
-    (host' : H) →
-    (seat' : HostSeat) →
-    (tables' : Tables) →
-    Type 0
+abbrev pub Made : {H : Type 0} → HostRelation H → Option Deed → ActReply → Transition H HostSeat Tables
 Made does = MadeBy does Happens
 
-abbrev pub RunsAlone :
-    {H : Type 0} →
-    (does : HostRelation H) →
-    (steps : List Step) →
-    (host : H) →
-    (seat : HostSeat) →
-    (tables : Tables) →
-    (host' : H) →
-    (seat' : HostSeat) →
-    (tables' : Tables) →
-    Type 0
+abbrev pub RunsAlone : {H : Type 0} → HostRelation H → List Step → Transition H HostSeat Tables
 RunsAlone does = RunsBy does Happens

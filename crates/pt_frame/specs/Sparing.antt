@@ -19,4 +19,4 @@ IsSparing lacked (Opens asked scope next) = (told : ActReply) → IsSparing (lac
 IsSparing lacked (Bares rest) = IsSparing lacked rest
 IsSparing lacked (Brackets rest) = IsSparing lacked rest
 IsSparing lacked (Shuts passes rest) = IsSparing lacked rest
-IsSparing lacked (Allocates rest) = ⊥
+IsSparing lacked (Allocates made next) = ⊥

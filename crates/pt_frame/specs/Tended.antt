@@ -123,4 +123,4 @@ Tends seat (Opens asked scope next) worn =
 Tends seat (Bares rest) worn = Tends seat rest []
 Tends seat (Brackets rest) worn = Tends seat rest worn
 Tends seat (Shuts passes rest) worn = (worn ≡ []) × Tends seat rest []
-Tends seat (Allocates rest) worn = Tends seat rest worn
+Tends seat (Allocates made next) worn = Tends seat (next made) worn

@@ -1,9 +1,11 @@
 -- Believed. What a request does, its frame aside, and what it does in its frame.
 use Rattle.std.specs.Prelude.{ℕ, Bool, true, false, List, [], ◌∷◌, length, Option, Some, None}
 use Rattle.pt_host.specs.Call.{Call}
+use Rattle.pt_host.specs.Errno.{eio}
 use Rattle.pt_host.specs.declared.seat.HostSeat.{HostSeat}
 use Rattle.pt_iface.specs.declared.answer.Answer.{Answer}
 use Rattle.pt_iface.specs.declared.answer.Answer.TheVariants as answer
+use Rattle.pt_iface.specs.declared.directory.DirEntry.{DirEntry}
 use Rattle.pt_frame.specs.Deed.{Deed, Calls}
 use Rattle.pt_frame.specs.Held.{held, opened}
 use Rattle.pt_frame.specs.Replies.{closings_in, refusal}
@@ -13,6 +15,8 @@ use Rattle.pt_frame.specs.declared.act.ActReply.{ActReply}
 use Rattle.pt_frame.specs.declared.finish.Finish.TheVariants as finish
 use Rattle.pt_frame.specs.declared.hold.Hold.{Hold}
 use Rattle.pt_frame.specs.declared.hold.Taken.TheVariants.{Nothing}
+use Rattle.pt_frame.specs.declared.product.Product.{Product}
+use Rattle.pt_frame.specs.declared.product.Product.TheVariants as product
 
 -- What is held is said by the deeds and their replies: a tree says only what it asks, where scopes and brackets begin
 -- and end, and how it is answered.
@@ -29,11 +33,27 @@ pub data RequestTree : Type 0 where
   Brackets : RequestTree → RequestTree
   -- the innermost bracket ends, and the last hold of all may pass its end
   Shuts : Bool → RequestTree → RequestTree
-  -- what was told takes memory to go on with
-  Allocates : RequestTree → RequestTree
+  -- this is made, which takes memory, and it goes on with it
+  Allocates : Product → (Product → RequestTree) → RequestTree
+
+-- it goes on with bytes that are made
+abbrev pub by_bytes : (List ℕ → RequestTree) → Product → RequestTree
+by_bytes next (product.Bytes bytes) = next bytes
+by_bytes next (product.Entries entries) = Gives (answer.Refused eio)
+
+abbrev pub make_bytes : List ℕ → (List ℕ → RequestTree) → RequestTree
+make_bytes made next = Allocates (product.Bytes made) (by_bytes next)
+
+-- and likewise with the entries of a listing
+abbrev pub by_entries : (List DirEntry → RequestTree) → Product → RequestTree
+by_entries next (product.Entries entries) = next entries
+by_entries next (product.Bytes bytes) = Gives (answer.Refused eio)
+
+abbrev pub make_entries : List DirEntry → (List DirEntry → RequestTree) → RequestTree
+make_entries made next = Allocates (product.Entries made) (by_entries next)
 
 abbrev pub allocates : RequestTree → Bool
-allocates (Allocates rest) = true
+allocates (Allocates made next) = true
 allocates (Gives last) = false
 allocates (Refuses told) = false
 allocates (Asks deed next) = false
@@ -76,7 +96,7 @@ framed seat (Brackets rest) holds marks = framed seat rest holds (length holds �
 framed seat (Shuts passes rest) holds marks =
     shut seat (front passes holds) (mark_in marks) (behind passes holds) (λ left.
     framed seat rest left (outer marks))
-framed seat (Allocates rest) holds marks = framed seat rest holds marks
+framed seat (Allocates made next) holds marks = framed seat (next made) holds marks
 
 -- what a job with this tree may do from its start on
 abbrev pub grammar_of_tree : HostSeat → RequestTree → Grammar

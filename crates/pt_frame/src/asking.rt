@@ -1,17 +1,22 @@
 //! What a request is read by: a plain function over all that its job was told, which is read from its beginning each
 //! time. Each step takes the next reply, or stops the function where none is told yet.
 
-ghost use Rattle.std.specs.Prelude.{◌≡◌, IfOk, IfSome, IfNone, Some, slice_get};
+ghost use Rattle.std.specs.Prelude.{◌≡◌, ℕ, true, false, List, IfOk, IfErr, IfSome, IfNone, Some, None, Ok, Err};
+ghost use Rattle.std.specs.Prelude.{slice_get};
 ghost use Rattle.pt_frame.specs.Deed.{deed_of, Calls};
-ghost use Rattle.pt_frame.specs.Machine.Walk.{IsRead, Reads, reply_in};
-ghost use Rattle.pt_frame.specs.Tree.{RequestTree, Asks, Opens, Bares, Brackets, Shuts};
+ghost use Rattle.pt_frame.specs.Machine.Walk.{IsRead, IsWithEntries, Reads, entries_in, reply_in};
+ghost use Rattle.pt_frame.specs.Tree.{RequestTree, Asks, Opens, Bares, Brackets, Shuts, make_bytes, make_entries};
+ghost use Rattle.pt_frame.specs.declared.product.Product.TheVariants as product;
+ghost use Rattle.pt_frame.specs.declared.told.Heard.TheVariants as heard;
+ghost use Rattle.pt_iface.specs.declared.directory.DirEntry.{DirEntry};
 ghost use Rattle.pt_frame.specs.declared.act.ActReply.{ActReply};
 ghost use Rattle.pt_host.specs.Call.{call_of};
 
 use crate::act::{Act, ActReply};
 use crate::hold::Hold;
+use crate::product::Product;
 use crate::told::{Brings, Heard, Moved, act_may, is_same};
-use pt_host::{Errno, HostOp};
+use pt_host::{Bytes, Errno, HostOp};
 use pt_iface::Answer;
 
 /// Where a request stops.
@@ -32,6 +37,10 @@ pub enum Stop<'a> {
     Brackets,
     /// The innermost bracket ends, and the last hold of all may pass its end.
     Shuts(bool),
+    /// It made this, which is kept for it.
+    Makes(Product),
+    /// Memory ran out for what it makes.
+    GivesUp,
 }
 
 /// What a step or a part of a request hands on, or where the request stops in it.
@@ -128,6 +137,47 @@ pub fn shuts<'a>(told: &'a [Heard], at: &mut usize, passes: bool) -> Asked<'a, (
     match next(told, at) {
         None => Err(Stop::Shuts(passes)),
         Some(Heard::Shuts) => Ok(()),
+        Some(_) => Err(Stop::Gives(Answer::Refused(Errno::EIO))),
+    }
+}
+
+/// The bytes that the request made at this place, which are kept; none where they are not made yet.
+#[tactic(auto, using(crate::proofs::Reading::bytes_lie))]
+pub fn kept_bytes<'a>(told: &'a [Heard], at: &mut usize) -> Asked<'a, Option<&'a Bytes>>
+    ensures none { IfOk result (λ it. IfNone it (IsRead told.now at.old at.new None)) }
+    ensures some { IfOk result (λ it. IfSome it (λ bytes. (made : List ℕ) (next : List ℕ → RequestTree) →
+        Reads told.now at.old at.new (Ok bytes.now) (make_bytes made next) next)) }
+    ensures stray { IfErr result (λ stop. (made : List ℕ) (next : List ℕ → RequestTree) →
+        Reads {T = List ℕ} told.now at.old at.new (Err stop) (make_bytes made next) next) }
+    ensures place { IfOk result (λ it. IfSome it (λ bytes.
+        slice_get told.now at.old ≡ Some (heard.Kept (product.Bytes bytes.now)))) }
+{
+    match next(told, at) {
+        None => Ok(None),
+        Some(Heard::Kept(product)) => match product {
+            Product::Bytes(bytes) => Ok(Some(bytes)),
+            Product::Entries(_) => Err(Stop::Gives(Answer::Refused(Errno::EIO))),
+        },
+        Some(_) => Err(Stop::Gives(Answer::Refused(Errno::EIO))),
+    }
+}
+
+/// Whether the request made the entries of a listing at this place, which are kept then.
+#[tactic(auto, using(crate::proofs::Reading::entries_lie))]
+pub fn kept_entries<'a>(told: &'a [Heard], at: &mut usize) -> Asked<'a, bool>
+    ensures none { IfOk result (λ made. made ≡ false → IsRead told.now at.old at.new None) }
+    ensures some { IfOk result (λ made. made ≡ true → (entries : List DirEntry) (next : List DirEntry → RequestTree) →
+        Reads told.now at.old at.new (Ok (entries_in (slice_get told.now at.old))) (make_entries entries next) next) }
+    ensures stray { IfErr result (λ stop. (entries : List DirEntry) (next : List DirEntry → RequestTree) →
+        Reads {T = List DirEntry} told.now at.old at.new (Err stop) (make_entries entries next) next) }
+    ensures place { IfOk result (λ made. made ≡ true → IsWithEntries (slice_get told.now at.old)) }
+{
+    match next(told, at) {
+        None => Ok(false),
+        Some(Heard::Kept(product)) => match product {
+            Product::Entries(_) => Ok(true),
+            Product::Bytes(_) => Err(Stop::Gives(Answer::Refused(Errno::EIO))),
+        },
         Some(_) => Err(Stop::Gives(Answer::Refused(Errno::EIO))),
     }
 }

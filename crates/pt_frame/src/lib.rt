@@ -10,10 +10,11 @@ mod hold;
 mod laws;
 mod machine;
 mod marks;
+mod product;
 mod told;
 
 pub use act::{Act, ActReply, KeptAct, Want};
-pub use asking::{Asked, Stop, ask, bares, brackets, open, shuts};
+pub use asking::{Asked, Stop, ask, bares, brackets, kept_bytes, kept_entries, open, shuts};
 pub use edit::Editing;
 pub use finish::Finish;
 pub use hold::{Hold, Holds, Taken};
@@ -22,4 +23,5 @@ pub use laws::{
     memory_ran_out_at_a_step, seats_are_tended,
 };
 pub use machine::{Body, Framed, ended, row_fd};
+pub use product::Product;
 pub use told::{Brings, Heard, Moved, Told};

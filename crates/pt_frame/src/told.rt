@@ -5,12 +5,13 @@ ghost use Rattle.pt_session.specs.Change.{change_of};
 ghost use Rattle.pt_frame.specs.Deed.{deed_of};
 ghost use Rattle.pt_frame.specs.Machine.Brings.{brings_of, change_brings, is_same, sort_brings};
 ghost use Rattle.pt_frame.specs.Machine.Room.{most_told};
-ghost use Rattle.pt_frame.specs.Machine.Walk.{HasBytes, bytes_in, moved_as};
+ghost use Rattle.pt_frame.specs.Machine.Walk.{HasFor, moved_in};
 
 use crate::act::{Act, ActReply};
+use crate::product::Product;
 use arrayvec::ArrayVec;
 use pt_host::{HostOp, HostReply, HostValue};
-use pt_iface::Answer;
+use pt_iface::{Answer, GetxattrReply, ListxattrReply};
 use pt_session::Event;
 use std::marker::Model;
 
@@ -24,6 +25,7 @@ pub enum Brings {
 }
 
 /// One thing that a request was told: the reply to a step, with what such a step may bring, or that a mark was passed.
+/// What it made is kept here, so that its acts can borrow it.
 #[derive(Drop)]
 pub enum Heard {
     Reply { reply: ActReply, may: Brings },
@@ -33,6 +35,8 @@ pub enum Heard {
     Brackets,
     /// A bracket ended.
     Shuts,
+    /// What it made.
+    Kept(Product),
 }
 
 impl Default for Heard {
@@ -41,11 +45,14 @@ impl Default for Heard {
     }
 }
 
-/// The answer that the bytes of a reply make.
+/// The answer that the bytes of a reply make, or what the request made.
 #[derive(Clone, Copy)]
 pub enum Moved {
     Read,
     Link,
+    Xattr,
+    Xattrs,
+    Listing,
 }
 
 /// All that a request was told, in order.
@@ -85,10 +92,10 @@ impl Told {
         self.kept.push(heard);
     }
 
-    /// The answer that the bytes of the reply at this place make, which are moved out of it.
+    /// The answer that what was told at this place makes, which is moved out of it.
     pub fn answer(&mut self, what: Moved, place: usize) -> Answer
-        requires { HasBytes self.old place }
-        ensures { result ≡ moved_as what (bytes_in (slice_get self.old place)) }
+        requires { HasFor what self.old place }
+        ensures { result ≡ moved_in what (slice_get self.old place) }
     {
         match self.kept.swap_pop(place) {
             Some(
@@ -99,6 +106,20 @@ impl Told {
             ) => match what {
                 Moved::Read => Answer::Read(bytes),
                 Moved::Link => Answer::Link(bytes),
+                Moved::Xattr => Answer::Xattr(GetxattrReply::Value(bytes)),
+                Moved::Xattrs => Answer::Xattrs(ListxattrReply::Names(bytes)),
+                Moved::Listing => Answer::NoMemory,
+            },
+            Some(Heard::Kept(Product::Bytes(bytes))) => match what {
+                Moved::Read => Answer::Read(bytes),
+                Moved::Link => Answer::Link(bytes),
+                Moved::Xattr => Answer::Xattr(GetxattrReply::Value(bytes)),
+                Moved::Xattrs => Answer::Xattrs(ListxattrReply::Names(bytes)),
+                Moved::Listing => Answer::NoMemory,
+            },
+            Some(Heard::Kept(Product::Entries(entries))) => match what {
+                Moved::Listing => Answer::Listing(entries),
+                _ => Answer::NoMemory,
             },
             _ => Answer::NoMemory,
         }

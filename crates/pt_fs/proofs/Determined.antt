@@ -1,5 +1,5 @@
 -- Jobs that run by one schedule have one outcome unless memory runs out.
-use Rattle.std.proofs.Common.{◌≡◌, ◌≢◌, inl, inr, ℕ, zero, suc, ◌≤◌, List, [], ◌∷◌, ◌++◌, ◌∙◌, Option, Some}
+use Rattle.std.proofs.Common.{◌≡◌, ◌≢◌, inl, inr, Bool, true, ℕ, zero, suc, ◌≤◌, List, [], ◌∷◌, ◌++◌, ◌∙◌, Option, Some}
 use Rattle.std.proofs.Common.{None, refl, ap, sym, subst, length, map, slice_get, false, append-nil, arith}
 use Rattle.std.proofs.lemmas.Bool.{ne_eqb}
 use Rattle.std.proofs.lemmas.List.{length-set, length-map}
@@ -18,6 +18,7 @@ use Rattle.pt_frame.specs.Memory.{RanOut}
 use Rattle.pt_frame.specs.Past.{no_past, past_of}
 use Rattle.pt_frame.specs.declared.finish.Finish.{Finish}
 use Rattle.pt_frame.specs.declared.finish.Finish.TheVariants as finish
+use Rattle.pt_job.specs.Pattern.{takes_memory_for}
 use Rattle.pt_job.proofs.Answering.{is_determined}
 use Rattle.pt_req.specs.declared.plan.Plan.{Plan}
 use Rattle.pt_law.specs.Told.{AllMayBeTold}
@@ -25,7 +26,7 @@ use Rattle.pt_law.proofs.Hosts.{hosts_told}
 use Rattle.pt_law.proofs.Lists.{each_front}
 use Rattle.pt_law.proofs.Told.{Promises}
 use Rattle.pt_fit.proofs.Asked.{job_full, job_lasts, told_front}
-use Rattle.pt_fs.specs.Determined.{FoundMemory, EndsOrLoses, TurnsAreDetermined}
+use Rattle.pt_fs.specs.Determined.{FoundMemory, EndsOrLoses, NoneIsCut, TurnsAreDetermined}
 use Rattle.pt_fs.specs.Each.{answer_of}
 use Rattle.pt_fs.specs.Ends.{EndsWhole, LosesSeat, IsLeftAs}
 use Rattle.pt_fs.specs.Jobs.{no_seat, job_seat, job_start, job_grammar, asked_of}
@@ -142,7 +143,7 @@ none_of_both (x ∷ xs) ys e = absurd (cc)
 module _ {H : Type 0} (does : HostRelation H) (plan : Plan) (schedule : List ℕ) (jobs : List Job) (host host' : H)
     (tables tables' : Tables) (seats' : List (Option HostSeat)) (trace : List TraceStep) (answers : List Answer)
     (runs : TraceRuns does trace host (map job_seat jobs) tables host' seats' tables')
-    (memory : FoundMemory trace answers) where
+    (memory : FoundMemory trace answers) (uncut : NoneIsCut jobs answers) where
   beyond : (j : ℕ) → length jobs ≤ j → steps_by j trace ≡ []
   beyond j past =
       let long = length-map jobs job_seat in
@@ -205,27 +206,39 @@ module _ {H : Type 0} (does : HostRelation H) (plan : Plan) (schedule : List ℕ
         (l.front.left j) end
         × ((told : Answer) → slice_get answers j ≡ Some told → told ≡ answer_of end)
 
-    left_course : (j : ℕ) (job : Job) (told : Answer) → slice_get answers j ≡ Some told →
-        IsLeftAs plan lost errno l.front.left first later j job told → ItsCourse j (Some job)
-    left_course j job told at (inl own) =
-        let full = by_replies (job_grammar plan job) (job_lasts plan (job_start job) (asked_of job))
+    -- a job that was cut takes no memory of its own
+    spares : (j : ℕ) (job : Job) (told : Answer) → slice_get jobs j ≡ Some job → slice_get answers j ≡ Some told →
+        told ≡ answer.Cut → takes_memory_for (asked_of job) ≡ false
+    spares j job told given at cut = either (takes_memory_for (asked_of job)) refl
+      where
+        either : (takes : Bool) → takes_memory_for (asked_of job) ≡ takes → takes_memory_for (asked_of job) ≡ false
+        either true e = absurd (uncut j job told given at e cut)
+        either false e = e
+
+    left_course : (j : ℕ) (job : Job) (told : Answer) → slice_get jobs j ≡ Some job →
+        slice_get answers j ≡ Some told → IsLeftAs plan lost errno l.front.left first later j job told →
+        ItsCourse j (Some job)
+    left_course j job told given at (inl own) =
+        let none = spares j job told given at own.1 in
+        let full = by_replies (job_grammar plan job) (job_lasts plan (job_start job) (asked_of job) none)
         (steps_by j first ++ steps_by j later) (finish.Lost errno) (may_be_told j) (found_all j) own.2 in (
           finish.Lost errno,
           inl (ap (λ (k : ℕ). Some k) (sym own.0), full),
           λ other is. same_Some other told (sym is ∙ at) ∙ own.1,
         )
-    left_course j job told at (inr (inl ended)) =
-        let full = by_replies (job_grammar plan job) (job_lasts plan (job_start job) (asked_of job))
-        (steps_by j first) (finish.Answer told) (told_front (steps_by j first) (steps_by j later) (may_be_told j)).0
-        (found_first j) (belongs_by plan job (steps_by j first) told ended.3) in (
+    left_course j job told given at (inr (inl ended)) =
+        let whole : IsAnsweredInFull (finish.Answer told) =
+        subst (λ (last : Option Answer). IsAnsweredInFull (end_at last)) at (full_at answers memory.answered j) in
+        let full = by_answer (job_grammar plan job) (is_determined plan (job_start job) (asked_of job))
+        (steps_by j first) (finish.Answer told) whole (belongs_by plan job (steps_by j first) told ended.3) in (
           finish.Answer told,
           inr (inl (full, ended.2)),
           λ other is. same_Some other told (sym is ∙ at),
         )
-    left_course j job told at (inr (inr gone)) =
+    left_course j job told given at (inr (inr gone)) =
         let full = job_full plan (job_start job) (asked_of job) (steps_by j first) (steps_by j later)
-        (finish.Answer answer.Cut) (told_front (steps_by j first) (steps_by j later) (may_be_told j)).0
-        (found_first j) gone.3 in (
+        (finish.Answer answer.Cut) (spares j job told given at gone.1)
+        (told_front (steps_by j first) (steps_by j later) (may_be_told j)).0 (found_first j) gone.3 in (
           finish.Answer answer.Cut,
           inr (inr ((λ is. gone.0 (sym (same_Some lost j is))), full, gone.2)),
           λ other is. same_Some other told (sym is ∙ at) ∙ gone.1,
@@ -247,7 +260,7 @@ module _ {H : Type 0} (does : HostRelation H) (plan : Plan) (schedule : List ℕ
         elim (slice_get_cases jobs j).1 [
           | inl at ↦ elim (slice_get_cases answers j).1 [
             | inl told ↦ subst (ItsCourse j) (sym at.2)
-                (left_course j at.0 told.0 told.2 (l.left_as j at.0 told.0 at.2 told.2))
+                (left_course j at.0 told.0 at.2 told.2 (l.left_as j at.0 told.0 at.2 told.2))
             | inr past ↦ let inside = at.1 in let outside = past.0 in absurd (omega arith)
           ]
           | inr past ↦ subst (ItsCourse j) (sym past.1) (no_course j past.0)
@@ -315,9 +328,9 @@ pub turns_determined : {H : Type 0} (does : HostRelation H) (faults : H → ℕ)
 turns_determined {H} does faults promises one plan schedule jobs host tables trace trace' answers answers' lost lost'
     after after' seats seats' left left' agree ran ran' =
     let a = is_led does plan schedule jobs host after tables left ran.steps.seats trace answers ran.steps.runs
-    ran.memory faults promises lost ran.ends in
+    ran.memory ran.uncut faults promises lost ran.ends in
     let b = is_led does plan schedule jobs host after' tables left' ran'.steps.seats trace' answers' ran'.steps.runs
-    ran'.memory faults promises lost' ran'.ends in
+    ran'.memory ran'.uncut faults promises lost' ran'.ends in
     let alike = one_led does one (starts_in jobs) (length jobs) a.ends b.ends (stops_at ran.steps.seats after left)
     (stops_at ran'.steps.seats after' left') trace trace' (begins_at plan schedule jobs host tables) agree a.led b.led
     in

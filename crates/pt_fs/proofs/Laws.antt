@@ -1,6 +1,6 @@
 -- The laws of whole runs, read for a trace.
 use Rattle.std.proofs.Common.{◌≡◌, ◌⊎◌, ◌<◌, ◌++◌, ◌∙◌, ℕ, List, [], ◌∷◌, Option, Some, None, ap, sym, subst, refl}
-use Rattle.std.proofs.Common.{length}
+use Rattle.std.proofs.Common.{length, true}
 use Rattle.std.proofs.Common.{inl, slice_get}
 use Rattle.std.proofs.Common.{inr, arith, cond, eqb, append-nil}
 use Rattle.std.proofs.lemmas.Grind.{common_steps}
@@ -20,7 +20,7 @@ use Rattle.pt_frame.specs.Grammar.{Belongs}
 use Rattle.pt_frame.specs.Memory.{RanOut}
 use Rattle.pt_frame.specs.Past.{past_of}
 use Rattle.pt_host.specs.Relation.{HostRelation}
-use Rattle.pt_job.specs.Pattern.{Asked, Requests, Edits, grammar_for}
+use Rattle.pt_job.specs.Pattern.{Asked, Requests, Edits, grammar_for, takes_memory_for}
 use Rattle.pt_frame.specs.declared.finish.Finish.TheVariants as finish
 use Rattle.pt_req.specs.declared.plan.Plan.{Plan}
 use Rattle.pt_law.specs.Told.{AllMayBeTold}
@@ -180,7 +180,7 @@ comes_keeping plan job steps told t (inl b) = asked_keeps plan (job_start job) (
 comes_keeping plan job steps told t (inr stops) = subst (KeepsHandle steps) (sym stops.0) tt
 
 comes_ran_out : (plan : Plan) (job : Job) (steps : List Step) (told : Answer) → AllMayBeTold steps →
-    Comes plan job steps told → told ≡ answer.NoMemory → RanOut steps
+    Comes plan job steps told → told ≡ answer.NoMemory → RanOut steps ⊎ (takes_memory_for (asked_of job) ≡ true)
 comes_ran_out plan job steps told t (inl b) is =
     ran_out plan (job_start job) (asked_of job) steps t
     (subst (λ (last : Answer). Belongs (job_grammar plan job) steps (finish.Answer last)) is b)

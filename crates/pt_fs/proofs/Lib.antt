@@ -34,3 +34,4 @@ pub mod InFull
 pub mod Lockstep
 pub mod Leading
 pub mod Determined
+pub mod RootRefused

@@ -1,5 +1,5 @@
--- A job is answered that memory ran out only where it did at one of its steps.
-use Rattle.std.proofs.Common.{◌≡◌, inl, List, [], ◌∷◌, Option, Some, None, refl, subst}
+-- A job is answered that memory ran out only where it did at one of its steps, or where it takes memory of its own.
+use Rattle.std.proofs.Common.{◌≡◌, ◌⊎◌, inl, true, List, [], ◌∷◌, Option, Some, None, refl, subst}
 use Rattle.pt_host.specs.declared.edit.Edit.{Edit}
 use Rattle.pt_host.specs.declared.op.KeptHostOp.TheVariants as call
 use Rattle.pt_host.specs.declared.reply.HostReply.TheVariants as host
@@ -14,7 +14,7 @@ use Rattle.pt_frame.specs.declared.act.ActReply.{ActReply}
 use Rattle.pt_frame.specs.declared.act.ActReply.TheVariants.{Event, Host, NoCopy}
 use Rattle.pt_frame.specs.declared.finish.Finish.TheVariants as finish
 use Rattle.pt_req.specs.declared.plan.Plan.{Plan}
-use Rattle.pt_job.specs.Pattern.{Asked, Requests, Edits, grammar_for}
+use Rattle.pt_job.specs.Pattern.{Asked, Requests, Edits, grammar_for, takes_memory_for}
 use Rattle.pt_job.proofs.Answering.{has_cause}
 use Rattle.pt_law.specs.Told.{MayBeTold, StepMayBeTold, AllMayBeTold}
 
@@ -33,9 +33,11 @@ edit_lacks edit (Some same) (Event told) may is e =
 edit_lacks edit None (Event told) may is e = absurd is
 
 pub ran_out : (plan : Plan) (seat : HostSeat) (asked : Asked) (steps : List Step) → AllMayBeTold steps →
-    Belongs (grammar_for plan seat asked) steps (finish.Answer answer.NoMemory) → RanOut steps
+    Belongs (grammar_for plan seat asked) steps (finish.Answer answer.NoMemory) →
+    RanOut steps ⊎ (takes_memory_for asked ≡ true)
 ran_out plan seat (Requests who asked) steps may b = has_cause plan seat who asked steps b
 ran_out plan seat (Edits edit) [] may b = absurd b
 ran_out plan seat (Edits edit) (step ∷ []) may b =
-    inl (edit_lacks edit step.deed step.reply may.0 b.0 (same_answer answer.NoMemory (edit_answer step.reply) b.1))
+    inl (inl (edit_lacks edit step.deed step.reply may.0 b.0
+    (same_answer answer.NoMemory (edit_answer step.reply) b.1)))
 ran_out plan seat (Edits edit) (step ∷ more ∷ steps) may b = absurd b.1

@@ -20,7 +20,7 @@ use Rattle.pt_req.specs.declared.plan.Plan.{Plan}
 use Rattle.pt_law.specs.Told.{AllMayBeTold}
 use Rattle.pt_law.specs.Under.{IsSeated, IsUnrefused, AreUnrefused, AllSeatsAnswer}
 use Rattle.pt_law.proofs.Told.{Promises}
-use Rattle.pt_fit.specs.Asker.{role_for}
+use Rattle.pt_fit.specs.Asker.{agreed_in, role_for}
 use Rattle.pt_fit.proofs.Seating.{asked_seated, asked_seated_cut}
 use Rattle.pt_fs.specs.Ends.{IsRestoringStep}
 use Rattle.pt_fs.specs.Jobs.{job_seat, job_start, job_grammar, asked_of}
@@ -38,17 +38,17 @@ IsOf32Bits seat = seat.eff_caps.0 < 2 ^ 32
 -- however it came to its end
 stops_seated : (plan : Plan) (seat : HostSeat) (asked : Asked) (steps : List Step) → IsStartingSeat seat →
     IsOf32Bits seat → AllMayBeTold steps → AllSeatsAnswer seat steps → Stops plan seat asked steps →
-    IsSeated (role_for plan seat asked) seat steps
+    IsSeated (role_for plan seat (agreed_in steps) asked) seat steps
 stops_seated plan seat asked steps s f t a (inl lost) =
     asked_seated plan seat asked steps (finish.Lost lost.0) s f t a lost.1
 stops_seated plan seat asked steps s f t a (inr gone) =
-    subst (λ (l : List Step). IsSeated (role_for plan seat asked) seat l) (sym gone.2)
+    subst (λ (l : List Step). IsSeated (role_for plan seat (agreed_in l) asked) seat l) (sym gone.2)
     (asked_seated_cut plan seat asked gone.0 gone.1 (finish.Answer answer.Cut) s f (subst AllMayBeTold gone.2 t)
     (subst (AllSeatsAnswer seat) gone.2 a) gone.4 gone.3)
 
 comes_seated : (plan : Plan) (it : Job) (steps : List Step) (told : Answer) → IsStartingSeat (job_start it) →
     IsOf32Bits (job_start it) → AllMayBeTold steps → AllSeatsAnswer (job_start it) steps → Comes plan it steps told →
-    IsSeated (role_for plan (job_start it) (asked_of it)) (job_start it) steps
+    IsSeated (role_for plan (job_start it) (agreed_in steps) (asked_of it)) (job_start it) steps
 comes_seated plan it steps told s f t a (inl b) =
     asked_seated plan (job_start it) (asked_of it) steps (finish.Answer told) s f t a b
 comes_seated plan it steps told s f t a (inr stops) =
@@ -83,7 +83,8 @@ module _ {H : Type 0} (does : HostRelation H) (faults : H → ℕ) (p : Promises
   seated_from : (it : Job) (told : Answer) → slice_get s0 j ≡ Some (Some (job_start it)) →
       IsStartingSeat (job_start it) → IsOf32Bits (job_start it) → AllMayBeTold (steps_by j trace) →
       Comes plan it (steps_by j trace) told →
-      IsSeated (role_for plan (job_start it) (asked_of it)) (job_start it) (steps_by j trace)
+      IsSeated (role_for plan (job_start it) (agreed_in (steps_by j trace)) (asked_of it)) (job_start it)
+      (steps_by j trace)
   seated_from it told is starts fits may comes =
       comes_seated plan it (steps_by j trace) told starts fits may
       (seats_answer does faults p trace h0 h1 s0 s1 r0 r1 runs j (job_start it) is) comes
@@ -91,12 +92,16 @@ module _ {H : Type 0} (does : HostRelation H) (faults : H → ℕ) (p : Promises
   pub seated_job : (it : Job) (told : Answer) (seat : HostSeat) → slice_get s0 j ≡ Some (job_seat it) →
       IsStartingSeat (job_start it) → IsOf32Bits (job_start it) → AllMayBeTold (steps_by j trace) →
       Comes plan it (steps_by j trace) told →
-      job_seat it ≡ Some seat → IsSeated (role_for plan seat (asked_of it)) seat (steps_by j trace)
+      job_seat it ≡ Some seat →
+      IsSeated (role_for plan seat (agreed_in (steps_by j trace)) (asked_of it)) seat (steps_by j trace)
   seated_job (job.Request who own asked) told seat is starts fits may comes has =
-      subst (λ (s : HostSeat). IsSeated (role_for plan s (asked_of (job.Request who own asked))) s (steps_by j trace))
+      subst (λ (s : HostSeat).
+      IsSeated (role_for plan s (agreed_in (steps_by j trace)) (asked_of (job.Request who own asked))) s
+      (steps_by j trace))
       (some_same own seat has) (seated_from (job.Request who own asked) told is starts fits may comes)
   seated_job (job.OpenRoot own) told seat is starts fits may comes has =
-      subst (λ (s : HostSeat). IsSeated (role_for plan s (asked_of (job.OpenRoot own))) s (steps_by j trace))
+      subst (λ (s : HostSeat). IsSeated (role_for plan s (agreed_in (steps_by j trace)) (asked_of (job.OpenRoot own))) s
+      (steps_by j trace))
       (some_same own seat has) (seated_from (job.OpenRoot own) told is starts fits may comes)
   seated_job (job.Edit edit) told seat is starts fits may comes has = absurd (cc)
 

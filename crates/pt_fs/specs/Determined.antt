@@ -1,15 +1,18 @@
 -- Believed. Jobs that run by one schedule have one outcome unless memory runs out.
-use Rattle.std.specs.Prelude.{◌≡◌, ◌≢◌, ℕ, List, Option, Some, None}
+use Rattle.std.specs.Prelude.{◌≡◌, ◌≢◌, ℕ, true, List, Option, Some, None}
 use Rattle.pt_host.specs.Words.{Each}
 use Rattle.pt_host.specs.declared.ids.Errno.{Errno}
 use Rattle.pt_host.specs.declared.seat.HostSeat.{HostSeat}
 use Rattle.pt_session.specs.Tables.{Tables, Agree}
 use Rattle.pt_iface.specs.declared.answer.Answer.{Answer}
-use Rattle.pt_iface.specs.declared.answer.Answer.TheVariants.{NoMemory}
+use Rattle.pt_iface.specs.declared.answer.Answer.TheVariants.{Cut, NoMemory}
 use Rattle.pt_frame.specs.Deed.{LacksMemory}
 use Rattle.pt_host.specs.Relation.{HostRelation}
 use Rattle.pt_req.specs.declared.plan.Plan.{Plan}
+use Rattle.pt_job.specs.Pattern.{takes_memory_for}
 use Rattle.pt_fs.specs.Ends.{EndsWhole, LosesSeat}
+use Rattle.pt_fs.specs.Jobs.{asked_of}
+use Rattle.pt_fs.specs.Keeps.{OfEachJob}
 use Rattle.pt_fs.specs.Trace.{RunsJobs}
 use Rattle.pt_fs.specs.declared.job.Job.{Job}
 use Rattle.pt_fs.specs.declared.trace.TraceStep.{TraceStep}
@@ -18,6 +21,12 @@ use Rattle.pt_fs.specs.declared.trace.TraceStep.{TraceStep}
 pub record FoundMemory (trace : List TraceStep) (answers : List Answer) : Type 0 where
   pub replies : Each (λ step. LacksMemory step.reply → ⊥) trace
   pub answered : Each (λ answer. answer ≢ NoMemory) answers
+
+-- No job that takes memory of its own was cut: of such a one neither its steps nor its answer tells whether it found
+-- it.
+abbrev pub NoneIsCut : List Job → List Answer → Type 0
+NoneIsCut jobs answers =
+    OfEachJob jobs answers (λ j job told. takes_memory_for (asked_of job) ≡ true → told ≢ Cut)
 
 -- the run lost no seat, or that of this job by this error
 abbrev pub EndsOrLoses :
@@ -57,6 +66,7 @@ pub record RanInOrder
   pub steps : RunsJobs does jobs trace host tables host' seats' tables'
   pub ends : EndsOrLoses does faults plan jobs schedule host tables trace answers lost
   pub memory : FoundMemory trace answers
+  pub uncut : NoneIsCut jobs answers
 
 -- two such runs of the same jobs, by one schedule from the same host and tables, are one
 pub record AreOneRun

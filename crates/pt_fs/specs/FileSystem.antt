@@ -1,5 +1,5 @@
 -- Believed. A file system as contracts see it, and how it is made.
-use Rattle.std.specs.Prelude.{◌≡◌, ◌⊎◌, ℕ, List, [], ◌∷◌, Option, Some, Result, Ok, Err}
+use Rattle.std.specs.Prelude.{◌≡◌, ◌⊎◌, ℕ, true, false, List, [], ◌∷◌, Option, Some, None, Result, Ok, Err}
 use Rattle.pt_host.specs.Call.{Call}
 use Rattle.pt_host.specs.Errno.{einval}
 use Rattle.pt_host.specs.Flags.{path_flags}
@@ -11,12 +11,15 @@ use Rattle.pt_host.specs.declared.op.KeptHostOp.TheVariants as call
 use Rattle.pt_host.specs.declared.reply.HostReply.{HostReply}
 use Rattle.pt_host.specs.declared.reply.HostReply.TheVariants as reply
 use Rattle.pt_host.specs.declared.reply.HostValue.TheVariants as value
+use Rattle.pt_maps.specs.NameRules.{is_terminated}
 use Rattle.pt_maps.specs.Refusal.{AreAccepted, IsFirstRefusal}
 use Rattle.pt_maps.specs.declared.error.MapError.{MapError}
 use Rattle.pt_maps.specs.declared.rule.IdRule.{IdRule}
+use Rattle.pt_maps.specs.declared.xattr_rule.XattrRule.{XattrRule}
 use Rattle.pt_session.specs.Tables.{Tables}
 use Rattle.pt_iface.specs.declared.answer.Refusal.{Refusal}
 use Rattle.pt_iface.specs.declared.answer.Refusal.TheVariants as refusal
+use Rattle.pt_req.specs.Plan.{moved_capability}
 use Rattle.pt_req.specs.declared.plan.Config.{Config}
 use Rattle.pt_req.specs.declared.plan.Plan.{Plan}
 
@@ -47,10 +50,16 @@ abbrev pub IsMadeBy : HostReply → Result FileSystem Refusal → Type 0
 IsMadeBy told (Ok fs) = IsRootBy told (Ok fs.root)
 IsMadeBy told (Err why) = IsRootBy told (Err why)
 
--- of these rules none is refused
+-- where there are rules for names, they meet every name
+abbrev pub LeavesNone : Option (List XattrRule) → Type 0
+LeavesNone None = Unit {0}
+LeavesNone (Some rules) = is_terminated rules ≡ true
+
+-- of the rules of ids none is refused, and those of names leave none unmet
 pub record AreMapped (cfg : Config) : Type 0 where
   pub uids : AreAccepted cfg.uid_map
   pub gids : AreAccepted cfg.gid_map
+  pub names : LeavesNone cfg.xattrmap
 
 -- one of these rules is refused, or memory ran out for a map of them
 abbrev pub IsUnmappedBy : List IdRule → Refusal → Type 0
@@ -58,16 +67,28 @@ IsUnmappedBy rules (refusal.Errno errno) = (errno ≡ einval) × (error : MapErr
 IsUnmappedBy rules refusal.Memory = Unit {0}
 IsUnmappedBy rules (refusal.Lost errno) = ⊥
 
+-- these rules for names leave one unmet, or memory ran out
+abbrev pub LeavesOne : Option (List XattrRule) → Type 0
+LeavesOne None = ⊥
+LeavesOne (Some rules) = is_terminated rules ≡ false
+
+abbrev pub IsUnnamed : Option (List XattrRule) → Refusal → Type 0
+IsUnnamed rules (refusal.Errno errno) = (errno ≡ einval) × LeavesOne rules
+IsUnnamed rules refusal.Memory = Unit {0}
+IsUnnamed rules (refusal.Lost errno) = ⊥
+
 -- for want of a map none is made, and no call
 abbrev pub IsUnmapped : Config → Result FileSystem Refusal → Type 0
 IsUnmapped cfg (Ok fs) = ⊥
-IsUnmapped cfg (Err why) = IsUnmappedBy cfg.uid_map why ⊎ IsUnmappedBy cfg.gid_map why
+IsUnmapped cfg (Err why) =
+    IsUnmappedBy cfg.uid_map why ⊎ IsUnmappedBy cfg.gid_map why ⊎ IsUnnamed cfg.xattrmap why
 
--- the configuration's, with a map of each of its lists of rules
+-- the configuration's, with a map of each of its lists of rules of ids, and with the host's name of the capabilities
 pub record IsPlanned (cfg : Config) (plan : Plan) : Type 0 where
   pub config : plan.config ≡ cfg
   pub uids : plan.uid_map ≡ cfg.uid_map
   pub gids : plan.gid_map ≡ cfg.gid_map
+  pub capability : plan.capability ≡ moved_capability cfg.xattrmap
 
 -- where the tree was told it is told, and has one descriptor more
 abbrev pub OpensOne : Option Tree → Fd → Option Tree → Type 0

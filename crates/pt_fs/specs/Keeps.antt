@@ -1,5 +1,6 @@
 -- Believed. What a run keeps after every step and at its end, in whatever order its jobs took their steps.
-use Rattle.std.specs.Prelude.{◌≡◌, ◌≢◌, ◌≤◌, ℕ, List, ◌∷◌, ◌++◌, Option, Some, None, length, map, slice_get}
+use Rattle.std.specs.Prelude.{◌≡◌, ◌≢◌, ◌≤◌, ◌⊎◌, ℕ, true, List, ◌∷◌, ◌++◌, Option, Some, None, length, map}
+use Rattle.std.specs.Prelude.{slice_get}
 use Rattle.pt_host.specs.Tree.{Tree}
 use Rattle.pt_host.specs.declared.seat.HostSeat.{HostSeat}
 use Rattle.pt_session.specs.Tables.{Tables}
@@ -14,7 +15,8 @@ use Rattle.pt_frame.specs.declared.finish.Finish.{Finish}
 use Rattle.pt_frame.specs.declared.finish.Finish.TheVariants as finish
 use Rattle.pt_frame.specs.Memory.{RanOut}
 use Rattle.pt_req.specs.declared.plan.Plan.{Plan}
-use Rattle.pt_fit.specs.Asker.{role_for}
+use Rattle.pt_job.specs.Pattern.{takes_memory_for}
+use Rattle.pt_fit.specs.Asker.{agreed_in, role_for}
 use Rattle.pt_fit.specs.Cause.{IsCausedBy}
 use Rattle.pt_fit.specs.Created.{IsCreated}
 use Rattle.pt_fit.specs.Decided.{decides}
@@ -151,9 +153,11 @@ pub record GivesAllBack (trace : List TraceStep) (j : ℕ) (job : Job) (told : A
 abbrev pub IsCausedIn : Plan → List TraceStep → ℕ → Job → Answer → Type 0
 IsCausedIn plan trace j job told = IsCausedBy plan (asked_of job) (steps_by j trace) told
 
--- a job is answered that memory ran out only where one of its steps was told so or could not be copied
+-- a job is answered that memory ran out only where one of its steps was told so or could not be copied, or where it
+-- takes memory of its own
 abbrev pub RanOutIn : List TraceStep → ℕ → Job → Answer → Type 0
-RanOutIn trace j job told = told ≡ answer.NoMemory → RanOut (steps_by j trace)
+RanOutIn trace j job told =
+    told ≡ answer.NoMemory → RanOut (steps_by j trace) ⊎ (takes_memory_for (asked_of job) ≡ true)
 
 -- how a job ended that was answered so
 abbrev pub finish_of : Option Answer → Finish
@@ -198,7 +202,7 @@ IsNamedIn plan told tables trace j job other = Unit {0}
 abbrev pub SeatedEach : Plan → List Job → List TraceStep → Type 0
 SeatedEach plan jobs trace =
     (j : ℕ) (job : Job) (seat : HostSeat) → slice_get jobs j ≡ Some job → job_seat job ≡ Some seat →
-    IsSeated (role_for plan seat (asked_of job)) seat (steps_by j trace)
+    IsSeated (role_for plan seat (agreed_in (steps_by j trace)) (asked_of job)) seat (steps_by j trace)
 
 -- Two entries of one object have one number, where the number that was given first lives until the other is given.
 abbrev pub AgreeOnNumbers : Option Tree → Tables → List TraceStep → Type 0

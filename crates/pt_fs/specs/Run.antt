@@ -49,7 +49,8 @@ pub record IsRun
   -- Each refusal has its cause, in what was asked or at a step of its job. An edit is refused exactly where its step
   -- was.
   pub causes : OfEachJob jobs answers (IsCausedIn plan trace)
-  -- A job is answered that memory ran out only where one of its steps was told so or could not be copied.
+  -- A job is answered that memory ran out only where one of its steps was told so or could not be copied, or where it
+  -- takes memory of its own.
   pub memory : OfEachJob jobs answers (RanOutIn trace)
   -- What a job was given it gave back, and nothing before it was given, but for the number that its answer has; and
   -- giving back is never refused.

@@ -9,7 +9,7 @@ use Rattle.pt_iface.specs.declared.answer.Answer.{Answer}
 use Rattle.pt_frame.specs.Deed.{Deed, HoldsReplyBytes, Step, kept_deed_of}
 use Rattle.pt_frame.specs.Replies.{closings_in}
 use Rattle.pt_host.specs.Relation.{HostRelation}
-use Rattle.pt_frame.specs.Made.{Makes, MadeBy}
+use Rattle.pt_frame.specs.Made.{Makes, MadeBy, Transition}
 use Rattle.pt_frame.specs.Past.{past_of}
 use Rattle.pt_job.specs.Pattern.{bound_for, most_inserted}
 use Rattle.pt_frame.specs.declared.act.ActReply.{ActReply}
@@ -30,18 +30,7 @@ IsShown reply shown = (shown ≡ reply) ⊎ ((shown ≡ act_reply.NoCopy) × Hol
 -- A step of a job that has a seat, which may be another after it, or of one that has none. The relation of events is a
 -- parameter, as that of the host is.
 abbrev pub MadeFromBy :
-    {H A : Type 0} →
-    (does : HostRelation H) →
-    (makes : Makes A) →
-    (deed : Option Deed) →
-    (reply : ActReply) →
-    (host : H) →
-    (seat : Option HostSeat) →
-    (access : A) →
-    (host' : H) →
-    (seat' : Option HostSeat) →
-    (access' : A) →
-    Type 0
+    {H A : Type 0} → HostRelation H → Makes A → Option Deed → ActReply → Transition H (Option HostSeat) A
 MadeFromBy does makes deed reply host (Some seat) access host' (Some seat') access' =
     MadeBy does makes deed reply host seat access host' seat' access'
 MadeFromBy does makes deed reply host None access host' None access' =
@@ -50,17 +39,7 @@ MadeFromBy does makes deed reply host seat access host' seat' access' = ⊥
 
 -- the step was made from the seat of the job that owns it, and no other seat changed
 abbrev pub MadeAtBy :
-    {H A : Type 0} →
-    (does : HostRelation H) →
-    (makes : Makes A) →
-    (step : TraceStep) →
-    (host : H) →
-    (seats : List (Option HostSeat)) →
-    (access : A) →
-    (host' : H) →
-    (seats' : List (Option HostSeat)) →
-    (access' : A) →
-    Type 0
+    {H A : Type 0} → HostRelation H → Makes A → TraceStep → Transition H (List (Option HostSeat)) A
 MadeAtBy does makes step host seats access host' seats' access' =
     (seat : Option HostSeat) × (seat' : Option HostSeat) × (slice_get seats step.job ≡ Some seat)
     × (seats' ≡ slice_set seats step.job seat')
@@ -68,17 +47,7 @@ MadeAtBy does makes step host seats access host' seats' access' =
 
 -- the trace leads from host, seats and access to these, each step from where the one before it led
 abbrev pub TraceRunsBy :
-    {H A : Type 0} →
-    (does : HostRelation H) →
-    (makes : Makes A) →
-    (trace : List TraceStep) →
-    (host : H) →
-    (seats : List (Option HostSeat)) →
-    (access : A) →
-    (host' : H) →
-    (seats' : List (Option HostSeat)) →
-    (access' : A) →
-    Type 0
+    {H A : Type 0} → HostRelation H → Makes A → List TraceStep → Transition H (List (Option HostSeat)) A
 TraceRunsBy does makes [] host seats access host' seats' access' =
     (host' ≡ host) × (seats' ≡ seats) × (access' ≡ access)
 TraceRunsBy {H} {A} does makes (step ∷ steps) host seats access host' seats' access' =
@@ -87,44 +56,13 @@ TraceRunsBy {H} {A} does makes (step ∷ steps) host seats access host' seats' a
     × TraceRunsBy does makes steps host1 seats1 access1 host' seats' access'
 
 -- over the session's own tables
-abbrev pub MadeFrom :
-    {H : Type 0} →
-    (does : HostRelation H) →
-    (deed : Option Deed) →
-    (reply : ActReply) →
-    (host : H) →
-    (seat : Option HostSeat) →
-    (tables : Tables) →
-    (host' : H) →
-    (seat' : Option HostSeat) →
-    (tables' : Tables) →
-    Type 0
+abbrev pub MadeFrom : {H : Type 0} → HostRelation H → Option Deed → ActReply → Transition H (Option HostSeat) Tables
 MadeFrom does = MadeFromBy does Happens
 
-abbrev pub MadeAt :
-    {H : Type 0} →
-    (does : HostRelation H) →
-    (step : TraceStep) →
-    (host : H) →
-    (seats : List (Option HostSeat)) →
-    (tables : Tables) →
-    (host' : H) →
-    (seats' : List (Option HostSeat)) →
-    (tables' : Tables) →
-    Type 0
+abbrev pub MadeAt : {H : Type 0} → HostRelation H → TraceStep → Transition H (List (Option HostSeat)) Tables
 MadeAt does = MadeAtBy does Happens
 
-abbrev pub TraceRuns :
-    {H : Type 0} →
-    (does : HostRelation H) →
-    (trace : List TraceStep) →
-    (host : H) →
-    (seats : List (Option HostSeat)) →
-    (tables : Tables) →
-    (host' : H) →
-    (seats' : List (Option HostSeat)) →
-    (tables' : Tables) →
-    Type 0
+abbrev pub TraceRuns : {H : Type 0} → HostRelation H → List TraceStep → Transition H (List (Option HostSeat)) Tables
 TraceRuns does = TraceRunsBy does Happens
 
 -- those that there are, in their order

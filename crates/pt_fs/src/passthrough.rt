@@ -2,6 +2,7 @@ ghost use Rattle.std.specs.Prelude.{◌≡◌, ◌⊎◌, IfOk, IfErr, OnOk, OnE
 ghost use Rattle.pt_host.specs.declared.reply.HostReply.{HostReply};
 ghost use Rattle.pt_maps.specs.Refusal.{AreAccepted};
 ghost use Rattle.pt_session.specs.Tables.{empty_tables};
+ghost use Rattle.pt_req.specs.Plan.{moved_capability};
 ghost use Rattle.pt_fs.specs.FileSystem.{
   opens_root,
   AreMapped,
@@ -10,15 +11,17 @@ ghost use Rattle.pt_fs.specs.FileSystem.{
   IsRootBy,
   IsUnmapped,
   IsUnmappedBy,
+  IsUnnamed,
+  LeavesNone,
   OpensOne,
   StaysTold,
 };
 
 use crate::fs::SteppedFs;
-use pt_host::{Errno, Fd, Host, HostOp, HostReply, HostSeat, HostValue, OpenFlags};
+use pt_host::{Bytes, Errno, Fd, Host, HostOp, HostReply, HostSeat, HostValue, OpenFlags};
 use pt_iface::{Context, Refusal, Request};
 use pt_job::AnyJob;
-use pt_maps::{IdMap, IdRules, MapError};
+use pt_maps::{IdMap, IdRules, MapError, XattrMap};
 use pt_req::{Config, Plan};
 use pt_session::{Event, EventReply, Session};
 use std::alloc::Global;
@@ -54,18 +57,40 @@ fn map_of(alloc: Global, rules: &IdRules) -> Result<IdMap, Refusal>
     }
 }
 
-/// The configuration with a map of each of its lists of rules, that of uids first.
+/// The host's name of the attribute that holds a file's capabilities, where these rules make it another one. Rules
+/// that leave a name unmet are `EINVAL`.
+fn capability_of(alloc: Global, rules: &Option<XattrMap>) -> Result<Option<Bytes>, Refusal>
+    ensures moved { IfOk result (λ moved. moved ≡ moved_capability rules.now) }
+    ensures accepted { OnOk result (LeavesNone rules.now) }
+    ensures refused { IfErr result (λ why. IsUnnamed rules.now why) }
+{
+    let Some(map) = rules else {
+        return Ok(None);
+    };
+    if !map.is_terminated() {
+        return Err(Refusal::Errno(Errno::EINVAL));
+    }
+    match map.other_name(b"security.capability") {
+        Ok(other) => Ok(other),
+        Err(_) => Err(Refusal::Memory),
+    }
+}
+
+/// The configuration with a map of each of its lists of rules, that of uids first, that of names last.
 fn mapped(alloc: Global, cfg: Config) -> Result<Plan, Refusal>
     ensures plan { IfOk result (λ plan. IsPlanned cfg plan) }
     ensures mapped { OnOk result (AreMapped cfg) }
-    ensures refused { IfErr result (λ why. IsUnmappedBy cfg.uid_map why ⊎ IsUnmappedBy cfg.gid_map why) }
+    ensures refused { IfErr result (λ why. IsUnmappedBy cfg.uid_map why ⊎ IsUnmappedBy cfg.gid_map why
+        ⊎ IsUnnamed cfg.xattrmap why) }
 {
     let uid_map = map_of(alloc, &cfg.uid_map)?;
     let gid_map = map_of(alloc, &cfg.gid_map)?;
+    let capability = capability_of(alloc, &cfg.xattrmap)?;
     Ok(Plan {
         config: cfg,
         uid_map,
         gid_map,
+        capability,
     })
 }
 
@@ -90,16 +115,16 @@ fn open_root<H: Host>(host: &mut H, seat: &mut HostSeat) -> Result<Fd, Refusal>
 }
 
 impl PassthroughFs {
-    /// Makes the maps of ids, that of uids first, and then opens the host's root, and nothing else. A refusal leaves
-    /// no new descriptor.
+    /// Makes the maps of ids, that of uids first, sees that the rules of names leave none unmet, and then opens the
+    /// host's root, and nothing else. A refusal leaves no new descriptor.
     pub fn new<H: Host>(
         alloc: Global,
         cfg: Config,
         host: &mut H,
         seat: &mut HostSeat,
     ) -> Result<PassthroughFs, Refusal>
-        // Where both maps are made there is one call, a step of the host's own, whose answer is the file system's or
-        // its refusal's cause. A refused map is EINVAL without a call.
+        // Where all rules are accepted there is one call, a step of the host's own, whose answer is the file system's
+        // or its refusal's cause. Rules that are refused are EINVAL without a call.
         ensures call { (AreMapped cfg × ((reply : HostReply) × H.does host.old seat.old opens_root reply host.new
             seat.new × IsMadeBy reply result)) ⊎ (IsUnmapped cfg result × (host.new ≡ host.old)) }
         ensures plan { IfOk result (λ fs. IsPlanned cfg fs.plan) }

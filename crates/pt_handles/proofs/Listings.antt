@@ -1,12 +1,19 @@
 -- Listings as a whole: they are read in one way, and bytes that break are none.
 use Rattle.std.proofs.Common.{◌≡◌, ◌≤◌, ◌<◌, ◌+◌, ◌-◌, ◌∙◌, ℕ, zero, suc, List, [], ◌∷◌, ◌++◌, refl, sym, ap, subst}
-use Rattle.std.proofs.Common.{length, take, drop, arith, append_assoc, length-append}
+use Rattle.std.proofs.Common.{length, take, drop, arith, append_assoc, length-append, Bool, true, false, ◌&&◌, ◌==◌, not}
+use Rattle.std.specs.Prelude.{nat_lt, ◌^◌}
+use Rattle.std.specs.List.{list_all}
+use Rattle.std.specs.Str.{bytes_eq}
+use Rattle.std.proofs.lemmas.Bool.{eqb-false, eqb-true, lt-ltb, ltb-true}
+use Rattle.std.proofs.lemmas.Slice.Eq.{bytes_eq-Decides}
 use Rattle.std.proofs.Math.Seq.{take-add}
 use Rattle.std.proofs.lemmas.Grind.{flat_map-append}
 use Rattle.std.proofs.lemmas.List.{append-nil, take-append-drop, length-drop, drop-drop}
 use Rattle.pt_host.specs.Words.{Each}
-use Rattle.pt_handles.specs.Record.{Dirent, record_size, record_of, FitsRecord, records_of, IsListing, BeginsWith, BreaksAt}
-use Rattle.pt_handles.specs.Reading.{seen_dirent, dirents_within, dirents_in, HasRecord, IsReadUpTo}
+use Rattle.pt_handles.specs.Record.{Dirent, record_size, record_of, FitsRecord, records_of, IsListing, BeginsWith}
+use Rattle.pt_handles.specs.Record.{BreaksAt, HasNoNul}
+use Rattle.pt_handles.specs.Reading.{HasRecord, IsReadUpTo}
+use Rattle.pt_handles.specs.Dirents.{dirents_in, dirents_within, has_room, is_listing, seen_dirent}
 use Rattle.pt_handles.proofs.Records.{seen_back, length_record, drop_record, take_record}
 
 -- the entries of records are read from them
@@ -25,7 +32,8 @@ dirents_all (suc most) (entry ∷ entries) fit long =
     let shorter : length rest ≤ most =
     omega (arith, long, length-append (record_of entry) rest, length_record entry)
     in
-    ap (λ (e : Dirent). e ∷ dirents_within most (drop (record_size (seen_dirent (record_of entry ++ rest)).name) (record_of entry ++ rest))) seen
+    ap (λ (e : Dirent). e ∷ dirents_within most
+    (drop (record_size (seen_dirent (record_of entry ++ rest)).name) (record_of entry ++ rest))) seen
     ∙ ap (λ (l : List ℕ). entry ∷ dirents_within most l) left
     ∙ ap (λ (l : List Dirent). entry ∷ l) (dirents_all most entries fit.1 shorter)
 
@@ -35,7 +43,8 @@ listing_in bytes entries is =
     ap (λ (l : List ℕ). dirents_within (length l) l) is.records
     ∙ dirents_all (length (records_of entries)) entries is.fit (omega arith)
 
-pub own_listing : (bytes : List ℕ) (entries : List Dirent) → IsListing bytes entries → IsListing bytes (dirents_in bytes)
+pub own_listing : (bytes : List ℕ) (entries : List Dirent) → IsListing bytes entries →
+    IsListing bytes (dirents_in bytes)
 own_listing bytes entries is = subst (λ (l : List Dirent). IsListing bytes l) (sym (listing_in bytes entries is)) is
 
 each_on : (one other : List Dirent) → Each FitsRecord one → Each FitsRecord other → Each FitsRecord (one ++ other)
@@ -159,3 +168,81 @@ next_view bytes current size entry value view is more seen sized =
         left = subst (λ (l : List ℕ). IsListing l (dirents_in l)) passed step.1;
       },
     )
+
+-- what has room in a record is seen to have it
+both_so : (a b : Bool) → a ≡ true → b ≡ true → (a && b) ≡ true
+both_so true b x y = y
+both_so false b x y = absurd (cc)
+
+both_are : (a b : Bool) → (a && b) ≡ true → (a ≡ true) × (b ≡ true)
+both_are true b x = (refl, x)
+both_are false b x = absurd (cc)
+
+no_nul_so : (name : List ℕ) → HasNoNul name → list_all (λ byte. not (byte == 0)) name ≡ true
+no_nul_so [] so = refl
+no_nul_so (byte ∷ name) so = both_so (not (byte == 0)) _ (by (byte == 0) refl) (no_nul_so name so.1)
+  where
+    by : (b : Bool) → (byte == 0) ≡ b → not (byte == 0) ≡ true
+    by true e = absurd (so.0 (eqb-true byte 0 e))
+    by false e = ap not e
+
+no_nul_is : (name : List ℕ) → list_all (λ byte. not (byte == 0)) name ≡ true → HasNoNul name
+no_nul_is [] is = tt
+no_nul_is (byte ∷ name) is =
+    let both = both_are (not (byte == 0)) _ is in ((λ nul. by (byte == 0) refl both.0 nul), no_nul_is name both.1)
+  where
+    by : (b : Bool) → (byte == 0) ≡ b → not (byte == 0) ≡ true → byte ≡ 0 → ⊥
+    by true e is nul = absurd (cc)
+    by false e is nul = eqb-false byte 0 e nul
+
+room_so : (entry : Dirent) → FitsRecord entry → has_room entry ≡ true
+room_so entry fits =
+    both_so _ _ (lt-ltb _ _ fits.ino) (both_so _ _ (lt-ltb _ _ fits.offset) (both_so _ _ (lt-ltb _ _ fits.kind)
+    (both_so _ _ (no_nul_so entry.name fits.name) (lt-ltb _ _ fits.size))))
+
+room_is : (entry : Dirent) → has_room entry ≡ true → FitsRecord entry
+room_is entry is =
+    let ino = both_are (nat_lt entry.ino (2 ^ 64)) _ is in
+    let offset = both_are (nat_lt entry.offset (2 ^ 64)) _ ino.1 in
+    let kind = both_are (nat_lt entry.kind (2 ^ 8)) _ offset.1 in
+    let name = both_are (list_all (λ byte. not (byte == 0)) entry.name) _ kind.1 in
+    record {
+      ino = ltb-true _ _ ino.0;
+      offset = ltb-true _ _ offset.0;
+      kind = ltb-true _ _ kind.0;
+      name = no_nul_is entry.name name.0;
+      size = ltb-true _ _ name.1;
+    }
+
+rooms_so : (entries : List Dirent) → Each FitsRecord entries → list_all has_room entries ≡ true
+rooms_so [] fit = refl
+rooms_so (entry ∷ entries) fit = both_so (has_room entry) _ (room_so entry fit.0) (rooms_so entries fit.1)
+
+rooms_are : (entries : List Dirent) → list_all has_room entries ≡ true → Each FitsRecord entries
+rooms_are [] is = tt
+rooms_are (entry ∷ entries) is =
+    let both = both_are (has_room entry) _ is in (room_is entry both.0, rooms_are entries both.1)
+
+same_so : (one other : List ℕ) → one ≡ other → bytes_eq one other ≡ true
+same_so one other same = (bytes_eq-Decides one other).1 same
+
+-- bytes are a listing just where they are seen to be one
+pub is_a_listing : (bytes : List ℕ) (entries : List Dirent) → IsListing bytes entries → true ≡ is_listing bytes
+is_a_listing bytes entries is =
+    let own = own_listing bytes entries is in
+    sym (both_so _ _ (rooms_so (dirents_in bytes) own.fit) (same_so bytes (records_of (dirents_in bytes)) own.records))
+
+pub seen_listing : (bytes : List ℕ) → is_listing bytes ≡ true → IsListing bytes (dirents_in bytes)
+seen_listing bytes is =
+    let both = both_are (list_all has_room (dirents_in bytes)) _ is in
+    record {
+      fit = rooms_are (dirents_in bytes) both.0;
+      records = (bytes_eq-Decides bytes (records_of (dirents_in bytes))).0 both.1;
+    }
+
+pub no_listing : (bytes : List ℕ) (place : ℕ) → BreaksAt bytes place → false ≡ is_listing bytes
+no_listing bytes place breaks = by (is_listing bytes) refl
+  where
+    by : (b : Bool) → is_listing bytes ≡ b → false ≡ is_listing bytes
+    by false e = sym e
+    by true e = absurd (broken_is_none bytes place breaks (dirents_in bytes) (seen_listing bytes e))

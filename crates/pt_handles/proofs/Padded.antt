@@ -7,7 +7,7 @@ use Rattle.std.proofs.lemmas.Bool.{eqb-true}
 use Rattle.std.proofs.lemmas.Bool.Decides.{eqb_tells}
 use Rattle.std.proofs.lemmas.List.Sums.{split_at_first, passes_at_first}
 use Rattle.pt_handles.specs.Record.{HasNoNul}
-use Rattle.pt_handles.specs.Reading.{before_nul}
+use Rattle.pt_handles.specs.Dirents.{before_nul}
 
 -- a byte that is no NUL does not pass for one
 passes_not : (byte : ℕ) → byte ≢ 0 → (byte == 0) ≡ false
@@ -37,7 +37,9 @@ before_has_none [] = tt
 before_has_none (byte ∷ bytes) =
     elim (eqb_tells byte 0) [
       | inl is ↦ rw is.0 tt
-      | inr is ↦ rw is.0 (rw (front_more byte (prefix_len (λ byte. not (byte == 0)) bytes) bytes) (is.1, before_has_none bytes))
+      | inr is ↦
+          rw is.0 (rw (front_more byte (prefix_len (λ byte. not (byte == 0)) bytes) bytes)
+          (is.1, before_has_none bytes))
     ]
 
 abbrev pub is_nul : ℕ → Bool

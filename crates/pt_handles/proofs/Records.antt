@@ -1,13 +1,16 @@
 -- Records at the front of bytes: what is read of one is what was written.
-use Rattle.std.proofs.Common.{◌≡◌, ◌≢◌, ◌≤◌, ◌<◌, ◌+◌, ◌-◌, ◌^◌, ◌∙◌, ℕ, zero, suc, List, [], ◌∷◌, ◌++◌, true, false, refl, sym}
-use Rattle.std.proofs.Common.{ap, length, take, drop, subst, arith, rules, get_or, append_assoc, length-append, inl, inr}
+use Rattle.std.proofs.Common.{◌≡◌, ◌≢◌, ◌≤◌, ◌<◌, ◌+◌, ◌-◌, ◌^◌, ◌∙◌, ℕ, zero, suc, List, [], ◌∷◌, ◌++◌, true, false}
+use Rattle.std.proofs.Common.{refl, sym}
+use Rattle.std.proofs.Common.{ap, length, take, drop, subst, arith, rules, get_or, append_assoc, length-append, inl}
+use Rattle.std.proofs.Common.{inr}
 use Rattle.std.proofs.Common.{add-one}
 use Rattle.std.specs.Prelude.{◌==◌}
 use Rattle.std.specs.Int.{to_le_bytes, from_le_bytes, w16, w64}
 use Rattle.std.specs.List.{list_all, slice_range}
 use Rattle.std.proofs.Math.ListN.{replicate}
 use Rattle.std.proofs.Math.Seq.{drop-append_seam, take-append_seam, drop-cons}
-use Rattle.std.proofs.lemmas.List.{length-replicate, take_at, take_rest, take-append-drop, drop-drop, length-take-le, length-drop, length-take, get_or-drop, get_or-take}
+use Rattle.std.proofs.lemmas.List.{length-replicate, take_at, take_rest, take-append-drop, drop-drop, length-take-le}
+use Rattle.std.proofs.lemmas.List.{length-drop, length-take, get_or-drop, get_or-take}
 use Rattle.std.proofs.lemmas.List.{get_or_past}
 use Rattle.std.proofs.lemmas.List.Folds.{drop_split}
 use Rattle.std.proofs.lemmas.Bool.{true≢false, cases_lt}
@@ -15,7 +18,8 @@ use Rattle.std.proofs.Common.{lit<}
 use Rattle.std.proofs.lemmas.Bool.Decides.{eqb_tells}
 use Rattle.std.proofs.lemmas.Nat.{from_le_bytes-to_le_bytes_8, from_le_bytes-to_le_bytes_2, le_bytes_8, le_bytes_2}
 use Rattle.pt_handles.specs.Record.{Dirent, record_size, record_head, record_of, HasNoNul, FitsRecord, BeginsWith}
-use Rattle.pt_handles.specs.Reading.{before_nul, seen_dirent, HasRecord}
+use Rattle.pt_handles.specs.Dirents.{before_nul, seen_dirent}
+use Rattle.pt_handles.specs.Reading.{HasRecord}
 use Rattle.pt_handles.proofs.Padded.{before_nul_is, no_nul_inside}
 
 ino_back : (entry : Dirent) (rest : List ℕ) → FitsRecord entry →
@@ -176,7 +180,8 @@ parts_of bytes name behind long split within =
     sym (take-append-drop 2 (drop 16 bytes))
     ∙ ap (λ l. take 2 (drop 16 bytes) ++ l) (drop-drop 2 16 bytes ∙ s18)
     in
-    let s8 : drop 8 bytes ≡ take 8 (drop 8 bytes) ++ (take 2 (drop 16 bytes) ++ (get_or bytes 18 0 ∷ (name ++ (pad ++ tail)))) =
+    let s8 : drop 8 bytes
+    ≡ take 8 (drop 8 bytes) ++ (take 2 (drop 16 bytes) ++ (get_or bytes 18 0 ∷ (name ++ (pad ++ tail)))) =
     sym (take-append-drop 8 (drop 8 bytes))
     ∙ ap (λ l. take 8 (drop 8 bytes) ++ l) (drop-drop 8 8 bytes ∙ s16)
     in
@@ -246,7 +251,8 @@ assembled bytes name behind long fit clean split told small within zeros =
           name = clean;
           size = small;
         };
-        front = parts_of bytes name behind long split within ∙ joined_parts entry _ _ _ pad (drop (record_size name) bytes) e1 e2 e3 e4;
+        front = parts_of bytes name behind long split within
+            ∙ joined_parts entry _ _ _ pad (drop (record_size name) bytes) e1 e2 e3 e4;
       };
       is_size = refl;
     }

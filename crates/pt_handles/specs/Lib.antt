@@ -1,6 +1,7 @@
 -- Inner. The files of definitions, lowest first.
 pub mod Record
 pub mod Laws
+pub mod Dirents
 pub mod Reading
 pub mod Listed
 pub mod OneCall

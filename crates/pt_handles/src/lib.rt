@@ -24,4 +24,4 @@ pub use opening::{openat, openat_verbose, reopen_fd_through_proc};
 pub use padding::strip_padding;
 pub use path_error::{FdPathError, InodePathError};
 pub use prefix::relative_path;
-pub use read_dir::{DirEntryRef, DirectoryIterator, ReadDir, ReadDirError};
+pub use read_dir::{DirEntryRef, DirectoryIterator, ReadDir, ReadDirError, is_listing};

@@ -4,7 +4,7 @@ ghost use Rattle.std.specs.Io.BufRead.{Rests};
 ghost use Rattle.pt_host.specs.declared.op.KeptHostOp.TheVariants as call;
 ghost use Rattle.pt_handles.specs.OneCall.{AsksOnce};
 ghost use Rattle.pt_handles.specs.Record.{Dirent, IsListing, BeginsWith, records_of};
-ghost use Rattle.pt_handles.specs.Reading.{seen_dirent};
+ghost use Rattle.pt_handles.specs.Dirents.{is_listing, seen_dirent};
 ghost use Rattle.pt_handles.specs.Listed.{IsRead, IsReadOf, Gives, GivesFirst, dirent_of};
 
 use crate::padding::strip_padding;
@@ -54,13 +54,24 @@ pub struct ReadDir {
 impl Model for ReadDir {
     ghost use Rattle.std.specs.Prelude.{List, drop};
     ghost use Rattle.pt_handles.specs.Record.{Dirent};
-    ghost use Rattle.pt_handles.specs.Reading.{dirents_in, IsReadUpTo};
+    ghost use Rattle.pt_handles.specs.Dirents.{dirents_in};
+    ghost use Rattle.pt_handles.specs.Reading.{IsReadUpTo};
 
     ghost Value = { List Dirent };
 
     ghost view = { λ reader. dirents_in (drop reader.current reader.bytes) };
 
     ghost invariant = { λ reader. IsReadUpTo reader.bytes reader.current };
+}
+
+/// Whether these bytes are whole records. Takes no memory.
+pub fn is_listing(bytes: &[u8]) -> bool
+    ensures { result ≡ is_listing bytes.now }
+{
+    match first_broken(bytes) {
+        None => true,
+        Some(_place) => false,
+    }
 }
 
 /// The bytes from a place on.

@@ -1,5 +1,5 @@
 -- Inner. What follows of whatever a job asks.
-use Rattle.std.specs.Prelude.{List, [], false}
+use Rattle.std.specs.Prelude.{◌≡◌, ◌⊎◌, List, [], true, false}
 use Rattle.pt_host.specs.declared.seat.HostSeat.{HostSeat}
 use Rattle.pt_iface.specs.declared.answer.Answer.TheVariants.{NoMemory}
 use Rattle.pt_iface.specs.declared.request.Context.{Context}
@@ -12,16 +12,16 @@ use Rattle.pt_frame.specs.Sparing.{IsSparing}
 use Rattle.pt_frame.specs.Tended.{Tended, Tends}
 use Rattle.pt_frame.specs.declared.finish.Finish.TheVariants.{Answer}
 use Rattle.pt_req.specs.declared.plan.Plan.{Plan}
-use Rattle.pt_job.specs.Pattern.{Asked, Pattern, grammar_for, tree_of}
+use Rattle.pt_job.specs.Pattern.{Asked, Pattern, grammar_for, takes_memory, tree_of}
 
 -- what a request changes of its seat is restored, whatever is replied
 abbrev pub RequestsTend : Type 0
 RequestsTend = (plan : Plan) (seat : HostSeat) (who : Context) (asked : Request) →
     Tends seat (tree_of plan seat who asked) []
 
--- none of today takes memory of its own
+-- what makes nothing takes no memory of its own
 abbrev pub RequestsSpare : Type 0
-RequestsSpare = (plan : Plan) (seat : HostSeat) (who : Context) (asked : Request) →
+RequestsSpare = (plan : Plan) (seat : HostSeat) (who : Context) (asked : Request) → takes_memory asked ≡ false →
     IsSparing false (tree_of plan seat who asked)
 
 -- what a job changes of its seat it restores, and it ends as it should
@@ -32,8 +32,7 @@ JobsTend = (plan : Plan) (seat : HostSeat) (asked : Asked) → Tended seat false
 abbrev pub JobsAreDetermined : Type 0
 JobsAreDetermined = (plan : Plan) (seat : HostSeat) (asked : Asked) → IsDetermined (grammar_for plan seat asked)
 
--- A request is answered that memory ran out only where it did, at one of its steps: none of today's takes memory of
--- its own.
+-- A request is answered that memory ran out only where it did, at one of its steps or for what it makes.
 abbrev pub NoMemoryIsCaused : Type 0
 NoMemoryIsCaused = (plan : Plan) (seat : HostSeat) (who : Context) (asked : Request) (steps : List Step) →
-    Pattern plan seat who asked steps (Answer NoMemory) → RanOut steps
+    Pattern plan seat who asked steps (Answer NoMemory) → RanOut steps ⊎ (takes_memory asked ≡ true)

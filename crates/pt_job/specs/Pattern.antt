@@ -1,5 +1,5 @@
 -- Believed. Which step lists and answers belong to what a job asks: a request, or an edit beside the requests.
-use Rattle.std.specs.Prelude.{ℕ, List}
+use Rattle.std.specs.Prelude.{ℕ, Bool, true, false, List, is_some}
 use Rattle.pt_host.specs.declared.edit.Edit.{Edit}
 use Rattle.pt_host.specs.declared.seat.HostSeat.{HostSeat}
 use Rattle.pt_iface.specs.declared.request.Context.{Context}
@@ -57,6 +57,23 @@ bound_of asked = 48
 abbrev pub bound_for : Asked → ℕ
 bound_for (Requests who asked) = bound_of asked
 bound_for (Edits edit) = 1
+
+-- it makes what takes memory: a name, as that of a context too, names, or the entries of a listing
+abbrev pub takes_memory : Request → Bool
+takes_memory (request.ReadDir inode handle size offset) = true
+takes_memory (request.SetXattr inode name value flags extra) = true
+takes_memory (request.GetXattr inode name size) = true
+takes_memory (request.ListXattr inode size) = true
+takes_memory (request.RemoveXattr inode name) = true
+takes_memory (request.Create parent name mode kill flags umask ext) = is_some ext.secctx
+takes_memory (request.Mkdir parent name mode umask ext) = is_some ext.secctx
+takes_memory (request.Mknod parent name mode rdev umask ext) = is_some ext.secctx
+takes_memory (request.Symlink target parent name ext) = is_some ext.secctx
+takes_memory asked = false
+
+abbrev pub takes_memory_for : Asked → Bool
+takes_memory_for (Requests who asked) = takes_memory asked
+takes_memory_for (Edits edit) = false
 
 -- so many rows a request inserts at most
 abbrev pub most_inserted : ℕ

@@ -107,7 +107,7 @@ impl AnyJob {
             ≤ inserts_left self.old }
     {
         match &mut self.work {
-            Work::Request(framed) => framed.take(plan, seat, reply),
+            Work::Request(framed) => framed.take(plan, reply, seat),
             Work::Edit(editing) => editing.take(&reply),
         }
     }

@@ -7,7 +7,7 @@ pub fn requests_tend()
     ensures { RequestsTend }
 {}
 
-/// No request takes memory of its own, but for what its steps take.
+/// A request that makes nothing takes no memory of its own, but for what its steps take.
 pub fn requests_spare()
     ensures { RequestsSpare }
 {}
@@ -22,7 +22,7 @@ pub fn jobs_are_determined()
     ensures { JobsAreDetermined }
 {}
 
-/// A request that is answered `NoMemory` has a step at which memory ran out.
+/// A request that is answered `NoMemory` has a step at which memory ran out, or makes what takes memory.
 pub fn no_memory_has_its_cause()
     ensures { NoMemoryIsCaused }
 {}

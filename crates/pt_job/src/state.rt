@@ -90,7 +90,7 @@ impl JobState {
             + told_inserted (owes seat.now self.old.at (any_tree self.old.body plan.now seat.now)) reply
             ≤ inserts_left self.old.at most_rows }
     {
-        self.framed.take(plan, seat, reply);
+        self.framed.take(plan, reply, seat);
     }
 
     pub fn is_finished(&self) -> bool

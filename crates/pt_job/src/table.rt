@@ -9,19 +9,19 @@ ghost use Rattle.pt_req.specs.declared.begun.BegunSession.{BegunSession};
 ghost use Rattle.pt_job.specs.Requests.{in_session};
 
 use pt_attr::{
-    CopyAsked, ObjectAsked, WriteAsked, access, copyfilerange, fallocate, flush, fsync, getattr,
-    link, lseek, mkdir, mknod, readlink, rename, rmdir, setattr, statfs, symlink, syncfs, unlink,
-    write,
+    CopyAsked, FileAsked, ObjectAsked, WriteAsked, access, copyfilerange, create, fallocate, flush,
+    fsync, getattr, link, lseek, mkdir, mknod, readlink, rename, rmdir, setattr, statfs, symlink,
+    syncfs, unlink, write,
 };
 use pt_frame::{Asked, Heard};
 use pt_host::{Errno, HostSeat};
 use pt_iface::{Answer, Context, Request};
 use pt_req::{
-    BegunSession, FileAsked, Plan, batch_forget, create, forget, lookup, open, opendir, read,
-    release, root,
+    BegunSession, Plan, batch_forget, forget, lookup, open, opendir, read, release, root,
 };
+use pt_xattr::{SetAsked, getxattr, listxattr, readdir, removexattr, setxattr};
 
-/// There is no such function, or not yet.
+/// There is no such function.
 fn unserved<'a>() -> Asked<'a, Answer>
     ensures { (told : List Heard) (at : ℕ) (session : BegunSession) →
         Reads told at at result (unserved session) Gives }
@@ -29,8 +29,7 @@ fn unserved<'a>() -> Asked<'a, Answer>
     Ok(Answer::Refused(Errno::ENOSYS))
 }
 
-/// What a request does in the session that goes on; two are asked in none. No access control lists are agreed on yet,
-/// so the umask of who asks is the guest's own matter.
+/// What a request does in the session that goes on; two are asked in none.
 pub fn in_session<'a>(
     told: &'a [Heard],
     at: &mut usize,
@@ -87,8 +86,8 @@ pub fn in_session<'a>(
             mode,
             kill,
             flags,
+            umask,
             ext,
-            ..
         } => {
             let asked = FileAsked {
                 who,
@@ -97,6 +96,7 @@ pub fn in_session<'a>(
                 mode: *mode,
                 kill: *kill,
                 flags: *flags,
+                umask: *umask,
                 ext,
             };
             create(told, at, plan, seat, session, asked)
@@ -105,13 +105,14 @@ pub fn in_session<'a>(
             parent,
             name,
             mode,
+            umask,
             ext,
-            ..
         } => {
             let asked = ObjectAsked {
                 who,
                 parent: *parent,
                 name,
+                umask: Some(*umask),
                 ext,
             };
             mkdir(told, at, plan, seat, session, asked, *mode)
@@ -121,13 +122,14 @@ pub fn in_session<'a>(
             name,
             mode,
             rdev,
+            umask,
             ext,
-            ..
         } => {
             let asked = ObjectAsked {
                 who,
                 parent: *parent,
                 name,
+                umask: Some(*umask),
                 ext,
             };
             mknod(told, at, plan, seat, session, asked, *mode, *rdev)
@@ -142,6 +144,7 @@ pub fn in_session<'a>(
                 who,
                 parent: *parent,
                 name,
+                umask: None,
                 ext,
             };
             symlink(told, at, plan, seat, session, asked, target)
@@ -170,7 +173,12 @@ pub fn in_session<'a>(
             attr,
         } => { setattr(told, at, plan, seat, *inode, *handle, *valid, attr) }
         Request::Access { inode, mask } => access(told, at, plan, who, *inode, *mask),
-        Request::ReadDir { .. } => unserved(),
+        Request::ReadDir {
+            inode,
+            handle,
+            size,
+            offset,
+        } => readdir(told, at, plan, session, *inode, *handle, *size, *offset),
         Request::Flush { inode, handle } => flush(told, at, *inode, *handle),
         Request::Fsync {
             inode,
@@ -218,10 +226,27 @@ pub fn in_session<'a>(
             };
             copyfilerange(told, at, asked)
         }
-        Request::SetXattr { .. } => unserved(),
-        Request::GetXattr { .. } => unserved(),
-        Request::ListXattr { .. } => unserved(),
-        Request::RemoveXattr { .. } => unserved(),
+        Request::SetXattr {
+            inode,
+            name,
+            value,
+            flags,
+            extra,
+        } => {
+            let asked = SetAsked {
+                inode: *inode,
+                name,
+                value,
+                flags: *flags,
+                extra: *extra,
+            };
+            setxattr(told, at, plan, session, asked)
+        }
+        Request::GetXattr { inode, name, size } => {
+            getxattr(told, at, plan, session, *inode, name, *size)
+        }
+        Request::ListXattr { inode, size } => listxattr(told, at, plan, session, *inode, *size),
+        Request::RemoveXattr { inode, name } => removexattr(told, at, plan, session, *inode, name),
         Request::Other { .. } => unserved(),
     }
 }

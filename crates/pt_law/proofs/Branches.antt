@@ -370,6 +370,6 @@ branch seat (Shuts passes rest) holds marks steps end b =
       | inr k ↦ comes_still (Shuts passes rest) rest k.1.later steps end (λ path last a. a) (λ path a. a) k.1.backs
           (branch seat rest k.0 (outer marks) k.1.later end k.1.belongs)
     ]
-branch seat (Allocates rest) holds marks steps end b =
-    comes_still (Allocates rest) rest steps steps end (λ path last a. a) (λ path a. a) (backs_none steps)
-    (branch seat rest holds marks steps end b)
+branch seat (Allocates made next) holds marks steps end b =
+    comes_still (Allocates made next) (next made) steps steps end (λ path last a. a) (λ path a. a) (backs_none steps)
+    (branch seat (next made) holds marks steps end b)

@@ -35,7 +35,7 @@ Does P (Opens asked scope next) = P (Calls asked) × ((told : ActReply) → Does
 Does P (Bares rest) = Does P rest
 Does P (Brackets rest) = Does P rest
 Does P (Shuts passes rest) = Does P rest
-Does P (Allocates rest) = Does P rest
+Does P (Allocates made next) = Does P (next made)
 
 -- of what gives back
 pub record OfReturns (P : Deed → Type 0) : Type 0 where
@@ -150,7 +150,7 @@ module _ (P : Deed → Type 0) (back : OfReturns P) where
   all_framed seat (Shuts passes rest) holds marks so =
       all_shut seat (front passes holds) (mark_in marks) (behind passes holds)
       (λ left. framed seat rest left (outer marks)) (λ left. all_framed seat rest left (outer marks) so)
-  all_framed seat (Allocates rest) holds marks so = all_framed seat rest holds marks so
+  all_framed seat (Allocates made next) holds marks so = all_framed seat (next made) holds marks so
 
   step_so : (deed : Deed) (did : Option Deed) (told : ActReply) → IsStepOf deed did told → P deed → IfMade P did
   step_so deed (Some same) NoCopy i p = subst P (sym i.0) p

@@ -104,7 +104,7 @@ answered_lasts seat true [] last = leave_lasts seat [] last
 answered_lasts seat true (one ∷ holds) last = shut_lasts seat (Some one) 0 holds (λ left. End last) (λ left. tt)
 
 none_allocates : (tree : RequestTree) → TakesNone tree → allocates tree ≡ false
-none_allocates (Allocates rest) s = absurd s
+none_allocates (Allocates made next) s = absurd s
 none_allocates (Gives last) s = refl
 none_allocates (Refuses told) s = refl
 none_allocates (Asks deed next) s = refl
@@ -136,7 +136,7 @@ framed_lasts seat (Brackets rest) holds marks s = framed_lasts seat rest holds (
 framed_lasts seat (Shuts passes rest) holds marks s =
     shut_lasts seat (front passes holds) (mark_in marks) (behind passes holds) (λ left.
     framed seat rest left (outer marks)) (λ left. framed_lasts seat rest left (outer marks) s)
-framed_lasts seat (Allocates rest) holds marks s = absurd s
+framed_lasts seat (Allocates made next) holds marks s = absurd s
 
 -- a job that is cut gives up no more
 pub cut_lasts : (seat : HostSeat) (owed : Owed) → Lasting (cut seat owed)

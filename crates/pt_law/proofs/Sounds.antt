@@ -360,7 +360,7 @@ sound_framed seat (Shuts passes rest) holds marks notes none f =
     framed seat rest left (outer marks)) notes none (λ later l.
     sound_framed seat rest (under (front passes holds) (down_to (mark_in marks) (behind passes holds))) (outer marks)
     later l.4 (f later l)))
-sound_framed seat (Allocates rest) holds marks notes none f = sound_framed seat rest holds marks notes none f
+sound_framed seat (Allocates made next) holds marks notes none f = sound_framed seat (next made) holds marks notes none f
 
 -- a job that is cut
 pub sound_cut : (seat : HostSeat) (owed : Owed) (job : Job) → Owes owed job → Sound (cut seat owed) job

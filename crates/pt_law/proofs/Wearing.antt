@@ -410,7 +410,7 @@ seats_unwind role seat (Opens asked scope next) scopes now s = s.0
 seats_unwind role seat (Bares rest) scopes now s = s.0
 seats_unwind role seat (Brackets rest) scopes now s = seats_unwind role seat rest scopes now s
 seats_unwind role seat (Shuts passes rest) scopes now s = unwinds_none seat now scopes s.0 s.1
-seats_unwind role seat (Allocates rest) scopes now s = seats_unwind role seat rest scopes now s
+seats_unwind role seat (Allocates made next) scopes now s = seats_unwind role seat (next made) scopes now s
 
 parted : (passes : Bool) (holds : List Hold) → Clear holds →
     Clear (under (front passes holds) []) × Clear (behind passes holds)
@@ -487,8 +487,8 @@ seated_framed role seat (Shuts passes rest) scopes holds marks now kept c s =
     (shut_seated role seat (front passes holds) (mark_in marks) (behind passes holds) (λ left.
     framed seat rest left (outer marks)) parts.0 parts.1 (λ left clear.
     seated_framed role seat rest [] left (outer marks) seat kept clear s.2))
-seated_framed role seat (Allocates rest) scopes holds marks now kept c s =
-    seated_framed role seat rest scopes holds marks now kept c s
+seated_framed role seat (Allocates made next) scopes holds marks now kept c s =
+    seated_framed role seat (next made) scopes holds marks now kept c s
 
 -- a job may be cut wherever it stands
 cut_none : (role : Role) (seat now : HostSeat) (brings : Taken) (count : ℕ) (scopes holds : List Hold)

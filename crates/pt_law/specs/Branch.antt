@@ -25,7 +25,7 @@ Along (Opens asked scope next) (step ∷ steps) last =
 Along (Bares rest) steps last = Along rest steps last
 Along (Brackets rest) steps last = Along rest steps last
 Along (Shuts passes rest) steps last = Along rest steps last
-Along (Allocates rest) steps last = Along rest steps last
+Along (Allocates made next) steps last = Along (next made) steps last
 Along tree steps last = ⊥
 
 -- behind the last of these steps the tree may give up
@@ -39,7 +39,7 @@ GivesUpAfter (Opens asked scope next) (step ∷ steps) =
 GivesUpAfter (Bares rest) steps = GivesUpAfter rest steps
 GivesUpAfter (Brackets rest) steps = GivesUpAfter rest steps
 GivesUpAfter (Shuts passes rest) steps = GivesUpAfter rest steps
-GivesUpAfter (Allocates rest) steps = GivesUpAfter rest steps
+GivesUpAfter (Allocates made next) steps = GivesUpAfter (next made) steps
 GivesUpAfter tree steps = ⊥
 
 -- by replies that may come no part of the tree takes memory of its own
@@ -51,7 +51,7 @@ TakesNone (Opens asked scope next) = (told : ActReply) → MayBeTold (Calls aske
 TakesNone (Bares rest) = TakesNone rest
 TakesNone (Brackets rest) = TakesNone rest
 TakesNone (Shuts passes rest) = TakesNone rest
-TakesNone (Allocates rest) = ⊥
+TakesNone (Allocates made next) = ⊥
 
 abbrev pub ReturnsBySort : Sort → Type 0
 ReturnsBySort (OpensWith flags) = ⊥

@@ -118,4 +118,4 @@ Keeps (Brackets rest) holds marks notes = Keeps rest holds (length holds ∷ mar
 Keeps (Shuts passes rest) holds marks notes =
     (later : Notes) → Lasts notes later →
     Keeps rest (under (front passes holds) (down_to (mark_in marks) (behind passes holds))) (outer marks) later
-Keeps (Allocates rest) holds marks notes = Keeps rest holds marks notes
+Keeps (Allocates made next) holds marks notes = Keeps (next made) holds marks notes

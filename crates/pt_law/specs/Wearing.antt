@@ -53,4 +53,4 @@ Seats role seat (Opens asked scope next) scopes now =
 Seats role seat (Bares rest) scopes now = Unwinds seat scopes now × Seats role seat rest [] seat
 Seats role seat (Brackets rest) scopes now = Seats role seat rest scopes now
 Seats role seat (Shuts passes rest) scopes now = (scopes ≡ []) × (now ≡ seat) × Seats role seat rest [] seat
-Seats role seat (Allocates rest) scopes now = Seats role seat rest scopes now
+Seats role seat (Allocates made next) scopes now = Seats role seat (next made) scopes now

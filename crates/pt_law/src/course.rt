@@ -19,8 +19,8 @@ use pt_host::Host;
 
 /// Whatever a job's tree is, where it keeps the discipline the job's steps keep it to their end, whole or cut. Where
 /// it takes no memory of its own and no step lacked any, it had not given up before it was cut. One that is not cut
-/// loses its seat, or gives up where its tree takes memory, or is answered by a branch of its tree. What a job was given
-/// it gave back by its end, or its answer has it; and it gave nothing back before it was given.
+/// loses its seat, or gives up where its tree takes memory, or is answered by a branch of its tree. What a job was
+/// given it gave back by its end, or its answer has it; and it gave nothing back before it was given.
 pub fn any_course()
     ensures whole { (seat : HostSeat) (tree : RequestTree) (steps : List Step) (end : Finish) → Keeps tree [] [] blank →
         AllMayBeTold steps → Belongs (grammar_of_tree seat tree) steps end → ComesToEnd idle steps end }

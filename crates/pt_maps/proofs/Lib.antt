@@ -7,3 +7,4 @@ pub mod Unambiguous
 pub mod NameRules
 pub mod ListedNames
 pub mod Terminated
+pub mod Naming

@@ -1,8 +1,10 @@
 -- Believed. What rules make of the names of extended attributes: the first rule that meets a name says it. After
 -- virtiofsd's documentation of `--xattrmap` (doc/xattr-mapping.md), and listxattr(2) for the list of names.
-use Rattle.std.specs.Prelude.{ℕ, not, ◌==◌, List, [], ◌∷◌, ◌++◌, Option, Some, option_map, option_and_then}
+use Rattle.std.specs.Prelude.{ℕ, not, ◌==◌, if◌then◌else◌, List, [], ◌∷◌, ◌++◌, Option, Some, None, option_map}
+use Rattle.std.specs.Prelude.{option_and_then}
 use Rattle.std.specs.Prelude.{length, drop, filter, find}
 use Rattle.std.specs.List.{slice_split}
+use Rattle.std.specs.Str.{bytes_eq}
 use Rattle.pt_maps.specs.declared.xattr_rule.RuleKind.TheVariants as kind
 use Rattle.pt_maps.specs.declared.xattr_rule.RuleKind.{RuleKind}
 use Rattle.pt_maps.specs.declared.xattr_rule.XattrRule.{XattrRule}
@@ -26,6 +28,20 @@ for_client name kind.Unsupported prepend = applied.Unsupported
 -- none where no rule meets it
 abbrev pub client_name : List XattrRule → List ℕ → Option AppliedRule
 client_name rules name = option_map (λ rule. for_client name rule.kind rule.prepend) (met_rule rules OfClient name)
+
+-- the host's name, where it is another than the client's
+abbrev pub if_other : List ℕ → Option AppliedRule → Option (List ℕ)
+if_other name (Some (applied.Pass other)) = if bytes_eq other name then None else Some other
+if_other name (Some applied.Deny) = None
+if_other name (Some applied.Unsupported) = None
+if_other name None = None
+
+abbrev pub other_name : List XattrRule → List ℕ → Option (List ℕ)
+other_name rules name = if_other name (client_name rules name)
+
+-- the kind of the rule that meets a client's name
+abbrev pub client_kind : List XattrRule → List ℕ → Option RuleKind
+client_kind rules name = option_map (λ rule. rule.kind) (met_rule rules OfClient name)
 
 -- a name in a list: a NUL ends it
 abbrev pub nul_ended : List ℕ → List ℕ

@@ -47,6 +47,11 @@ impl IdMap {
         }
     }
 
+    /// Where it keeps its rules.
+    pub fn allocator(&self) -> Global {
+        *self.rules.allocator()
+    }
+
     /// These rules, unless one is refused: then the error has the place of the first one, counted from 0.
     pub fn from_rules(alloc: Global, rules: &[IdRule]) -> Result<Self, MapError>
         ensures rules { IfOk result (λ map. map ≡ rules.now) }

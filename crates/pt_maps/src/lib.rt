@@ -16,5 +16,5 @@ pub use id_map::IdMap;
 pub use id_rules::IdRules;
 pub use laws::{rules_are_unambiguous, terminated_rules_meet_all};
 pub use rule::IdRule;
-pub use xattr_map::{AppliedRule, XattrMap};
+pub use xattr_map::{AppliedRule, XattrMap, names_of_list};
 pub use xattr_rule::{RuleKind, RuleScope, XattrRule};

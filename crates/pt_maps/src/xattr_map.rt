@@ -1,8 +1,9 @@
 ghost use Rattle.std.specs.Prelude.{◌≡◌, ◌≢◌, ◌++◌, Some, None, IfOk, IfErr, IfSome, OnOk, IsTrue, map};
-ghost use Rattle.std.specs.Prelude.{option_map};
+ghost use Rattle.std.specs.Prelude.{option_map, OnErr, [], ◌∷◌, length};
 ghost use Rattle.std.specs.List.{list_any};
 ghost use Rattle.pt_maps.specs.NameRules.{all_rules, is_terminated, meets_name, meets_all};
-ghost use Rattle.pt_maps.specs.MappedNames.{met_rule, client_name, listed_name, names_of_list, server_list};
+ghost use Rattle.pt_maps.specs.MappedNames.{met_rule, client_kind, client_name, other_name};
+ghost use Rattle.pt_maps.specs.MappedNames.{listed_name, names_of_list, server_list};
 ghost use Rattle.pt_maps.specs.MappedNames.{nul_ended};
 ghost use Rattle.pt_maps.specs.declared.xattr_rule.Side.TheVariants.{OfClient, OfServer};
 
@@ -62,8 +63,8 @@ fn joined(alloc: Global, front: &[u8], rest: &[u8]) -> Result<Bytes, AllocError>
     Ok(Bytes::from_vec(bytes))
 }
 
-/// The names of a list, without the empty ones.
-fn names_of_list(alloc: Global, list: &[u8]) -> Result<Vec<&[u8]>, AllocError>
+/// The names of a list of extended attributes, without the empty ones.
+pub fn names_of_list(alloc: Global, list: &[u8]) -> Result<Vec<&[u8]>, AllocError>
     ensures { IfOk result (λ names. map (λ name. name.now) names.items ≡ names_of_list list.now) }
 {
     list.split(|byte| *byte == 0)
@@ -100,6 +101,22 @@ impl XattrMap {
         XattrMap { alloc, rules }
     }
 
+    /// Puts a rule behind these.
+    pub fn push(&mut self, rule: XattrRule) -> Result<(), AllocError>
+        ensures ok { OnOk result (self.new ≡ self.old ++ rule ∷ []) }
+        ensures err { OnErr result (self.new ≡ self.old) }
+    {
+        self.rules.push(rule)?;
+        Ok(())
+    }
+
+    /// How many rules these are.
+    pub fn len(&self) -> usize
+        ensures { result ≡ length self.now }
+    {
+        self.rules.len()
+    }
+
     /// Whether some rule meets every name of the client, and some every name that the host lists.
     pub fn is_terminated(&self) -> bool
         ensures { result ≡ is_terminated self.now }
@@ -121,6 +138,35 @@ impl XattrMap {
             RuleKind::Okay => Ok(AppliedRule::Pass(Bytes::from_slice(self.alloc, name)?)),
             RuleKind::Bad => Ok(AppliedRule::Deny),
             RuleKind::Unsupported => Ok(AppliedRule::Unsupported),
+        }
+    }
+
+    /// The kind of the rule that meets a name that the client asks for. Takes no memory.
+    pub fn client_kind(&self, name: &[u8]) -> Option<RuleKind>
+        ensures { result ≡ client_kind self.now name.now }
+    {
+        match met_rule(&self.rules, Side::OfClient, name) {
+            Some(rule) => Some(rule.kind),
+            None => None,
+        }
+    }
+
+    /// The name that the host has for one of the client's, where that is another one. Its one refusal is that memory
+    /// ran out.
+    pub fn other_name(&self, name: &[u8]) -> Result<Option<Bytes>, MapError>
+        ensures other { IfOk result (λ other. other ≡ other_name self.now name.now) }
+        ensures memory { IfErr result (λ error. error ≡ MapError.Memory) }
+    {
+        match self.map_client_xattr(name) {
+            Ok(AppliedRule::Pass(other)) => {
+                if other.as_slice() == name {
+                    Ok(None)
+                } else {
+                    Ok(Some(other))
+                }
+            }
+            Ok(_) | Err(MapError::Unmet) => Ok(None),
+            Err(_) => Err(MapError::Memory),
         }
     }
 

@@ -1,50 +1,50 @@
 -- Each request is told, asks and brings no more than there is room for: a lemma a shape of step, a part and a request.
-use Rattle.std.proofs.Common.{◌≡◌, ℕ, zero, suc, ◌≤◌, Bool, true, false, List, Option, Some, None, refl, sym, subst}
-use Rattle.std.proofs.Common.{arith, if◌then◌else◌}
-use Rattle.pt_host.specs.Call.{Call}
-use Rattle.pt_host.specs.Errno.{ebadf, einval, estale, eopnotsupp}
-use Rattle.pt_host.specs.Flags.{o_directory}
+use Rattle.std.proofs.Common.{ℕ, zero, suc, ◌≤◌, Bool, true, false, List, Option, Some, None, Result, Ok, Err, arith}
+use Rattle.std.proofs.Common.{if◌then◌else◌}
+use Rattle.pt_host.specs.Errno.{ebadf, einval, eperm, eopnotsupp}
+use Rattle.pt_host.specs.Flags.{includes, o_directory, o_trunc}
+use Rattle.pt_host.specs.declared.ids.Errno.{Errno}
 use Rattle.pt_host.specs.declared.ids.Fd.{Fd}
-use Rattle.pt_host.specs.declared.ids.ObjIds.{ObjIds}
-use Rattle.pt_host.specs.declared.op.KeptHostOp.TheVariants as call
 use Rattle.pt_host.specs.declared.seat.HostSeat.{HostSeat}
 use Rattle.pt_host.specs.declared.stat.Stat.{Stat}
+use Rattle.pt_maps.specs.MappedNames.{client_name}
+use Rattle.pt_maps.specs.declared.xattr_map.AppliedRule.{AppliedRule}
+use Rattle.pt_maps.specs.declared.xattr_map.AppliedRule.TheVariants as applied
+use Rattle.pt_maps.specs.declared.xattr_rule.XattrRule.{XattrRule}
 use Rattle.pt_creds.specs.Identity.{Credentials}
 use Rattle.pt_creds.specs.Steps.{cred_steps}
 use Rattle.pt_session.specs.declared.form.RowForm.{RowForm}
 use Rattle.pt_session.specs.declared.form.RowForm.TheVariants.{File}
 use Rattle.pt_session.specs.declared.form.Negotiated.{Negotiated}
-use Rattle.pt_iface.specs.declared.answer.Answer.{Answer}
 use Rattle.pt_iface.specs.declared.answer.Answer.TheVariants as answer
 use Rattle.pt_iface.specs.declared.flags.FsOptions.{FsOptions}
 use Rattle.pt_iface.specs.declared.request.SecContext.{SecContext}
 use Rattle.pt_session.specs.Tables.{nothing_agreed}
-use Rattle.pt_frame.specs.Deed.{Calls}
 use Rattle.pt_frame.specs.Tree.{RequestTree, Gives, Refuses, Asks, Opens, Bares, Brackets, Shuts, Allocates, on, go_on}
+use Rattle.pt_frame.specs.Tree.{by_bytes}
 use Rattle.pt_frame.specs.Machine.Brings.{brings_of, holds_in, rows_in}
-use Rattle.pt_frame.specs.Machine.Room.{Keeps, Spends, SpendsAct, act_cost, most_holds, most_rows, most_told}
+use Rattle.pt_frame.specs.Machine.Room.{Keeps, KeepsBehind, KeepsOn, Spends, SpendsAct, act_cost, most_holds, most_rows}
+use Rattle.pt_frame.specs.Machine.Room.{most_told}
 use Rattle.pt_frame.specs.declared.act.ActReply.{ActReply}
+use Rattle.pt_frame.specs.declared.product.Product.{Product}
+use Rattle.pt_frame.specs.declared.product.Product.TheVariants as product
 use Rattle.pt_frame.specs.declared.told.Brings.{Brings}
 use Rattle.pt_frame.specs.declared.told.Brings.TheVariants as brings
-use Rattle.pt_req.specs.Asker.{as_asker, asker_of, group_set, egid_set, euid_set, cap_raised}
-use Rattle.pt_req.specs.Attributes.{is_blocked}
-use Rattle.pt_req.specs.Capability.{drops_fsetid, without_fsetid}
-use Rattle.pt_req.specs.Creating.{FileAsked, are_same, if_same, undone, kept_with, label_set, labelled, new_file}
-use Rattle.pt_req.specs.Creating.{old_file, made_file, make_file, named_handle}
+use Rattle.pt_req.specs.Asker.{as_asker, group_set, egid_set, euid_set, cap_raised, under_umask}
+use Rattle.pt_req.specs.Attributes.{Label, by_rule, by_rules, host_label, host_name, is_blocked}
+use Rattle.pt_req.specs.Capability.{capability_cleared, cleared_if, drops_fsetid, without_fsetid}
 use Rattle.pt_req.specs.Entries.{can_open, is_bad_name, is_bad_offset}
 use Rattle.pt_req.specs.Options.{cleaned, inode_flags, open_options, with_bits}
 use Rattle.pt_req.specs.Parts.{named, placed, file_of, open_form, open_row, open_inode, numbered_anew, numbered_as}
 use Rattle.pt_req.specs.Parts.{numbered, look_up, handled, open_num, root_open}
 use Rattle.pt_req.specs.Requests.{init, destroy, root, lookup, forget, batch_forget, open_file, open_dir, release, read}
-use Rattle.pt_req.specs.Requests.{create, unserved}
-use Rattle.pt_req.specs.Steps.{begin, or_refused, session_of, tried_in}
+use Rattle.pt_req.specs.Requests.{unserved}
+use Rattle.pt_req.specs.Steps.{begin, session_of}
 use Rattle.pt_req.specs.declared.begun.BegunSession.{BegunSession}
-use Rattle.pt_req.specs.declared.parts.asked.NamedHandle.{NamedHandle}
 use Rattle.pt_req.specs.declared.parts.looked.Looked.{Looked}
 use Rattle.pt_req.specs.declared.plan.Plan.{Plan}
-use Rattle.pt_req.specs.declared.replies.Made.{Made}
-use Rattle.pt_req.specs.declared.replies.Made.TheVariants.{New, Old}
 use Rattle.pt_session.specs.declared.reply.Resolved.{Resolved}
+use Rattle.pt_frame.proofs.Keeping.{sooner}
 
 -- so many more
 abbrev pub plus : ℕ → ℕ → ℕ
@@ -77,41 +77,52 @@ act_wider may acts acts' room room' rows rows' P Q ale rle wle so is =
     (λ w w' hw. so a a' r r' w w' ha hr hw))) is
 
 -- what is within bounds is within wider ones
+wider_behind : (replied : Bool) (tree : RequestTree) (told told' acts acts' room room' rows rows' : ℕ) → told ≤ told' → acts ≤ acts' →
+    room ≤ room' → rows ≤ rows' → KeepsBehind replied tree told acts room rows →
+    KeepsBehind replied tree told' acts' room' rows'
+wider_behind replied (Gives last) told told' acts acts' room room' rows rows' t a r w is = tt
+wider_behind replied (Refuses reply) told told' acts acts' room room' rows rows' t a r w is = tt
+wider_behind replied (Asks deed more) zero told' acts acts' room room' rows rows' t a r w is = absurd is
+wider_behind replied (Asks deed more) (suc told) zero acts acts' room room' rows rows' t a r w is = absurd (omega arith)
+wider_behind replied (Asks deed more) (suc told) (suc told') acts acts' room room' rows rows' t a r w is =
+    act_wider (brings_of deed) acts acts' room room' rows rows'
+    (λ x y z. (reply : ActReply) → KeepsOn (more reply) told x y z)
+    (λ x y z. (reply : ActReply) → KeepsOn (more reply) told' x y z) a r w
+    (λ x x' y y' z z' hx hy hz keeps. λ reply.
+    wider_behind true (more reply) told told' x x' y y' z z' (omega arith) hx hy hz (keeps reply)) is
+wider_behind replied (Opens call scope more) zero told' acts acts' room room' rows rows' t a r w is = absurd is
+wider_behind replied (Opens call scope more) (suc told) zero acts acts' room room' rows rows' t a r w is = absurd (omega arith)
+wider_behind replied (Opens call scope more) (suc told) (suc told') acts acts' room room' rows rows' t a r w is =
+    act_wider brings.Hold acts acts' room room' rows rows'
+    (λ x y z. (reply : ActReply) → KeepsOn (more reply) told x y z)
+    (λ x y z. (reply : ActReply) → KeepsOn (more reply) told' x y z) a r w
+    (λ x x' y y' z z' hx hy hz keeps. λ reply.
+    wider_behind true (more reply) told told' x x' y y' z z' (omega arith) hx hy hz (keeps reply)) is
+wider_behind replied (Bares rest) zero told' acts acts' room room' rows rows' t a r w is = absurd is
+wider_behind replied (Bares rest) (suc told) zero acts acts' room room' rows rows' t a r w is = absurd (omega arith)
+wider_behind replied (Bares rest) (suc told) (suc told') acts acts' room room' rows rows' t a r w is =
+    wider_behind false rest told told' acts acts' room room' rows rows' (omega arith) a r w is
+wider_behind replied (Brackets rest) zero told' acts acts' room room' rows rows' t a r w is = absurd is
+wider_behind replied (Brackets rest) (suc told) zero acts acts' room room' rows rows' t a r w is = absurd (omega arith)
+wider_behind replied (Brackets rest) (suc told) (suc told') acts acts' zero room' rows rows' t a r w is = absurd is
+wider_behind replied (Brackets rest) (suc told) (suc told') acts acts' (suc room) zero rows rows' t a r w is = absurd (omega arith)
+wider_behind replied (Brackets rest) (suc told) (suc told') acts acts' (suc room) (suc room') rows rows' t a r w is =
+    wider_behind false rest told told' acts acts' room room' rows rows' (omega arith) a (omega arith) w is
+wider_behind replied (Shuts passes rest) zero told' acts acts' room room' rows rows' t a r w is = absurd is
+wider_behind replied (Shuts passes rest) (suc told) zero acts acts' room room' rows rows' t a r w is = absurd (omega arith)
+wider_behind replied (Shuts passes rest) (suc told) (suc told') acts acts' room room' rows rows' t a r w is =
+    wider_behind false rest told told' acts acts' room room' rows rows' (omega arith) a r w is
+wider_behind replied (Allocates made next) zero told' acts acts' room room' rows rows' t a r w is = absurd is
+wider_behind replied (Allocates made next) (suc told) zero acts acts' room room' rows rows' t a r w is =
+    absurd (omega arith)
+wider_behind false (Allocates made next) (suc told) (suc told') acts acts' room room' rows rows' t a r w is = absurd is
+wider_behind true (Allocates made next) (suc told) (suc told') acts acts' room room' rows rows' t a r w is = λ kept.
+    wider_behind false (next kept) told told' acts acts' room room' rows rows' (omega arith) a r w (is kept)
+
 pub wider : (tree : RequestTree) (told told' acts acts' room room' rows rows' : ℕ) → told ≤ told' → acts ≤ acts' →
     room ≤ room' → rows ≤ rows' → Keeps tree told acts room rows → Keeps tree told' acts' room' rows'
-wider (Gives last) told told' acts acts' room room' rows rows' t a r w is = tt
-wider (Refuses reply) told told' acts acts' room room' rows rows' t a r w is = tt
-wider (Asks deed more) zero told' acts acts' room room' rows rows' t a r w is = absurd is
-wider (Asks deed more) (suc told) zero acts acts' room room' rows rows' t a r w is = absurd (omega arith)
-wider (Asks deed more) (suc told) (suc told') acts acts' room room' rows rows' t a r w is =
-    act_wider (brings_of deed) acts acts' room room' rows rows'
-    (λ x y z. (reply : ActReply) → Keeps (more reply) told x y z)
-    (λ x y z. (reply : ActReply) → Keeps (more reply) told' x y z) a r w
-    (λ x x' y y' z z' hx hy hz keeps. λ reply.
-    wider (more reply) told told' x x' y y' z z' (omega arith) hx hy hz (keeps reply)) is
-wider (Opens call scope more) zero told' acts acts' room room' rows rows' t a r w is = absurd is
-wider (Opens call scope more) (suc told) zero acts acts' room room' rows rows' t a r w is = absurd (omega arith)
-wider (Opens call scope more) (suc told) (suc told') acts acts' room room' rows rows' t a r w is =
-    act_wider brings.Hold acts acts' room room' rows rows'
-    (λ x y z. (reply : ActReply) → Keeps (more reply) told x y z)
-    (λ x y z. (reply : ActReply) → Keeps (more reply) told' x y z) a r w
-    (λ x x' y y' z z' hx hy hz keeps. λ reply.
-    wider (more reply) told told' x x' y y' z z' (omega arith) hx hy hz (keeps reply)) is
-wider (Bares rest) zero told' acts acts' room room' rows rows' t a r w is = absurd is
-wider (Bares rest) (suc told) zero acts acts' room room' rows rows' t a r w is = absurd (omega arith)
-wider (Bares rest) (suc told) (suc told') acts acts' room room' rows rows' t a r w is =
-    wider rest told told' acts acts' room room' rows rows' (omega arith) a r w is
-wider (Brackets rest) zero told' acts acts' room room' rows rows' t a r w is = absurd is
-wider (Brackets rest) (suc told) zero acts acts' room room' rows rows' t a r w is = absurd (omega arith)
-wider (Brackets rest) (suc told) (suc told') acts acts' zero room' rows rows' t a r w is = absurd is
-wider (Brackets rest) (suc told) (suc told') acts acts' (suc room) zero rows rows' t a r w is = absurd (omega arith)
-wider (Brackets rest) (suc told) (suc told') acts acts' (suc room) (suc room') rows rows' t a r w is =
-    wider rest told told' acts acts' room room' rows rows' (omega arith) a (omega arith) w is
-wider (Shuts passes rest) zero told' acts acts' room room' rows rows' t a r w is = absurd is
-wider (Shuts passes rest) (suc told) zero acts acts' room room' rows rows' t a r w is = absurd (omega arith)
-wider (Shuts passes rest) (suc told) (suc told') acts acts' room room' rows rows' t a r w is =
-    wider rest told told' acts acts' room room' rows rows' (omega arith) a r w is
-wider (Allocates rest) told told' acts acts' room room' rows rows' t a r w is = absurd is
+wider tree told told' acts acts' room room' rows rows' t a r w is =
+    wider_behind false tree told told' acts acts' room room' rows rows' t a r w is
 
 pub more : (t a r w : ℕ) (tree : RequestTree) (told acts room rows : ℕ) → Keeps tree told acts room rows →
     Keeps tree (plus t told) (plus a acts) (plus r room) (plus w rows)
@@ -126,12 +137,77 @@ unfolding go_on
 go_keeps next reply told acts room rows is (Some value) = is value
 go_keeps next reply told acts room rows is None = tt
 
--- behind a step
-pub step : {T : Type 0} (read : ActReply → Option T) (next : T → RequestTree) (told acts room rows : ℕ) →
+-- behind a making, once its scopes have ended
+pub bared : {T : Type 0} (read : ActReply → Option T) (next : T → RequestTree) (told acts room rows : ℕ) →
     ((value : T) → Keeps (next value) told acts room rows) → (reply : ActReply) →
     Keeps (on read next reply) told acts room rows
 unfolding on
-step read next told acts room rows is reply = go_keeps next reply told acts room rows is (read reply)
+bared read next told acts room rows is reply = go_keeps next reply told acts room rows is (read reply)
+
+-- behind a step
+pub step : {T : Type 0} (read : ActReply → Option T) (next : T → RequestTree) (told acts room rows : ℕ) →
+    ((value : T) → Keeps (next value) told acts room rows) → (reply : ActReply) →
+    KeepsOn (on read next reply) told acts room rows
+step read next told acts room rows is reply =
+    sooner (on read next reply) told acts room rows (bared read next told acts room rows is reply)
+
+go_on_keeps : {T : Type 0} (next : T → RequestTree) (reply : ActReply) (told acts room rows : ℕ) →
+    ((value : T) → KeepsOn (next value) told acts room rows) → (value : Option T) →
+    KeepsOn (go_on next reply value) told acts room rows
+unfolding go_on
+go_on_keeps next reply told acts room rows is (Some value) = is value
+go_on_keeps next reply told acts room rows is None = tt
+
+-- what is made may follow a step
+pub step_on : {T : Type 0} (read : ActReply → Option T) (next : T → RequestTree) (told acts room rows : ℕ) →
+    ((value : T) → KeepsOn (next value) told acts room rows) → (reply : ActReply) →
+    KeepsOn (on read next reply) told acts room rows
+unfolding on
+step_on read next told acts room rows is reply = go_on_keeps next reply told acts room rows is (read reply)
+
+pub if_keeps_on : (test : Bool) (one other : RequestTree) (told acts room rows : ℕ) →
+    KeepsOn one told acts room rows → KeepsOn other told acts room rows →
+    KeepsOn (if test then one else other) told acts room rows
+if_keeps_on true one other told acts room rows is not = is
+if_keeps_on false one other told acts room rows is not = not
+
+-- and a mapped name is
+rule_keeps : (fate : Option AppliedRule) (next : Result (List ℕ) Errno → RequestTree) (told acts room rows : ℕ) →
+    ((name : Result (List ℕ) Errno) → Keeps (next name) told acts room rows) →
+    KeepsOn (by_rule fate next) (suc told) acts room rows
+rule_keeps (Some (applied.Pass made)) next told acts room rows is = by
+  where
+    by : (kept : Product) → Keeps (by_bytes (λ name. next (Ok name)) kept) told acts room rows
+    by (product.Bytes bytes) = is (Ok bytes)
+    by (product.Entries entries) = tt
+rule_keeps (Some applied.Deny) next told acts room rows is =
+    sooner (next (Err eperm)) (suc told) acts room rows
+    (more 1 0 0 0 (next (Err eperm)) told acts room rows (is (Err eperm)))
+rule_keeps (Some applied.Unsupported) next told acts room rows is =
+    sooner (next (Err eopnotsupp)) (suc told) acts room rows
+    (more 1 0 0 0 (next (Err eopnotsupp)) told acts room rows (is (Err eopnotsupp)))
+rule_keeps None next told acts room rows is =
+    sooner (next (Err eopnotsupp)) (suc told) acts room rows
+    (more 1 0 0 0 (next (Err eopnotsupp)) told acts room rows (is (Err eopnotsupp)))
+
+rules_keeps : (rules : Option (List XattrRule)) (name : List ℕ) (next : Result (List ℕ) Errno → RequestTree)
+    (told acts room rows : ℕ) → ((name : Result (List ℕ) Errno) → Keeps (next name) told acts room rows) →
+    KeepsOn (by_rules rules name next) (suc told) acts room rows
+rules_keeps None name next told acts room rows is =
+    sooner (next (Ok name)) (suc told) acts room rows
+    (more 1 0 0 0 (next (Ok name)) told acts room rows (is (Ok name)))
+rules_keeps (Some rules) name next told acts room rows is =
+    rule_keeps (client_name rules name) next told acts room rows is
+
+pub host_name_keeps : (plan : Plan) (agreed : Negotiated) (name : List ℕ) (next : Result (List ℕ) Errno → RequestTree)
+    (told acts room rows : ℕ) → ((name : Result (List ℕ) Errno) → Keeps (next name) told acts room rows) →
+    KeepsOn (host_name plan agreed name next) (suc told) acts room rows
+unfolding host_name
+host_name_keeps plan agreed name next told acts room rows is =
+    if_keeps_on (is_blocked agreed name) (next (Err eopnotsupp)) (by_rules plan.config.xattrmap name next) (suc told)
+    acts room rows (sooner (next (Err eopnotsupp)) (suc told) acts room rows
+    (more 1 0 0 0 (next (Err eopnotsupp)) told acts room rows (is (Err eopnotsupp))))
+    (rules_keeps plan.config.xattrmap name next told acts room rows is)
 
 pub if_keeps : (test : Bool) (one other : RequestTree) (told acts room rows : ℕ) → Keeps one told acts room rows →
     Keeps other told acts room rows → Keeps (if test then one else other) told acts room rows
@@ -150,12 +226,6 @@ pub placed_keeps : (offset : ℕ) (next : RequestTree) (told acts room rows : �
 unfolding placed
 placed_keeps offset next told acts room rows is =
     if_keeps (is_bad_offset offset) (Gives (answer.Refused einval)) next told acts room rows tt is
-
-pub same_keeps : (made found : ObjIds) (next : RequestTree) (told acts room rows : ℕ) →
-    Keeps next told acts room rows → Keeps (if_same made found next) told acts room rows
-unfolding if_same
-same_keeps made found next told acts room rows is =
-    if_keeps (are_same made found) next (Gives (answer.Refused estale)) told acts room rows is tt
 
 -- rows
 pub file_keeps : (form : RowForm) (next : Fd → RequestTree) (told acts room rows : ℕ) →
@@ -223,15 +293,28 @@ pub fsetid_keeps : (drops : Bool) (next : RequestTree) (told acts room rows : �
 fsetid_keeps false next told acts room rows is = more 1 2 1 0 next told acts room rows is
 fsetid_keeps true next told acts room rows is = step _ _ _ _ _ _ (λ done. is)
 
+pub capability_keeps : (name : Option (List ℕ)) (fd : Fd) (through : Bool) (next : RequestTree)
+    (told acts room rows : ℕ) → Keeps next told acts room rows →
+    Keeps (capability_cleared name fd through next) (plus 1 told) (plus 1 acts) room rows
+capability_keeps None fd through next told acts room rows is = more 1 1 0 0 next told acts room rows is
+capability_keeps (Some name) fd through next told acts room rows is = step _ _ _ _ _ _ (λ done. is)
+
+cleared_keeps : (emptied : Bool) (name : Option (List ℕ)) (fd : Fd) (next : RequestTree) (told acts room rows : ℕ) →
+    Keeps next told acts room rows → Keeps (cleared_if emptied name fd next) (plus 1 told) (plus 1 acts) room rows
+cleared_keeps false name fd next told acts room rows is = more 1 1 0 0 next told acts room rows is
+cleared_keeps true name fd next told acts room rows is = capability_keeps name fd false next told acts room rows is
+
 pub open_keeps : (plan : Plan) (seat : HostSeat) (session : BegunSession) (number : ℕ) (kill : Bool) (flags : ℕ)
     (next : ℕ → RequestTree) (told acts room rows : ℕ) → ((handle : ℕ) → Keeps (next handle) told acts room rows) →
-    Keeps (open_num plan seat session number kill flags next) (plus 9 told) (plus 10 acts) (plus 5 room) (plus 1 rows)
+    Keeps (open_num plan seat session number kill flags next) (plus 10 told) (plus 11 acts) (plus 5 room) (plus 1 rows)
 open_keeps plan seat session number kill flags next told acts room rows is =
-    fsetid_keeps (drops_fsetid plan seat kill) _ (plus 7 told) (plus 8 acts) (plus 3 room) (plus 1 rows)
+    fsetid_keeps (drops_fsetid plan seat kill) _ (plus 8 told) (plus 9 acts) (plus 3 room) (plus 1 rows)
     (inode_keeps plan session number (cleaned plan.config flags)
-    (λ fd. Bares (handled session number fd (λ handle. Shuts false (next handle)))) (plus 5 told) (plus 4 acts)
+    (λ fd. Bares (cleared_if (includes flags o_trunc) plan.capability fd
+    (handled session number fd (λ handle. Shuts false (next handle))))) (plus 6 told) (plus 5 acts)
     (plus 1 room) (plus 1 rows) (λ fd.
-    handled_keeps session number fd (λ handle. Shuts false (next handle)) (suc told) acts room rows is))
+    cleared_keeps (includes flags o_trunc) plan.capability fd _ (plus 4 told) (plus 4 acts) (plus 1 room) (plus 1 rows)
+    (handled_keeps session number fd (λ handle. Shuts false (next handle)) (suc told) acts room rows is)))
 
 pub root_keeps : (plan : Plan) (session : BegunSession) (agreed : Option Negotiated) (next : RequestTree)
     (told acts room rows : ℕ) → Keeps next told acts room rows →
@@ -239,75 +322,16 @@ pub root_keeps : (plan : Plan) (session : BegunSession) (agreed : Option Negotia
 root_keeps plan session agreed next told acts room rows is =
     step _ _ _ _ _ _ (λ fd. step _ _ _ _ _ _ (λ stat. step _ _ _ _ _ _ (λ taken. step _ _ _ _ _ _ (λ done. is))))
 
--- a making
-pub undone_keeps : (undoing : Call) (last : Answer) (told acts room rows : ℕ) →
-    brings_of (Calls undoing) ≡ brings.Nothing → Keeps (undone undoing last) (plus 1 told) (plus 1 acts) room rows
-undone_keeps undoing last told acts room rows e =
-    subst (λ (may : Brings). SpendsAct may (suc acts) room rows (λ x y z.
-    (reply : ActReply) → Keeps (on tried_in (λ done. Gives last) reply) told x y z)) (sym e)
-    (step tried_in (λ done. Gives last) told acts room rows (λ done. tt))
-
-pub or_keeps : (undoing : Call) (next : RequestTree) (refused : Option Answer) (told acts room rows : ℕ) →
-    brings_of (Calls undoing) ≡ brings.Nothing → Keeps next told acts room rows →
-    Keeps (or_refused (undone undoing) next refused) (plus 1 told) (plus 1 acts) room rows
-or_keeps undoing next None told acts room rows e is = more 1 1 0 0 next told acts room rows is
-or_keeps undoing next (Some last) told acts room rows e is = undone_keeps undoing last told acts room rows e
-
-kept_keeps : (fd : Fd) (undoing : Call) (name value : List ℕ) (next : RequestTree) (told acts room rows : ℕ) →
-    brings_of (Calls undoing) ≡ brings.Nothing → Keeps next told acts room rows →
-    Keeps (kept_with fd undoing name value next) (plus 2 told) (plus 2 acts) room rows
-kept_keeps fd undoing name value next told acts room rows e is =
-    step _ _ _ _ _ _ (λ refused. or_keeps undoing next refused told acts room rows e is)
-
-label_keeps : (session : BegunSession) (fd : Fd) (undoing : Call) (label : SecContext) (next : RequestTree)
-    (told acts room rows : ℕ) → brings_of (Calls undoing) ≡ brings.Nothing → Keeps next told acts room rows →
-    Keeps (label_set session fd undoing label next) (plus 2 told) (plus 2 acts) room rows
-unfolding label_set
-label_keeps session fd undoing label next told acts room rows e is =
-    if_keeps (is_blocked session.agreed label.name) (undone undoing (answer.Refused eopnotsupp))
-    (kept_with fd undoing label.name label.value next) (plus 2 told) (plus 2 acts) room rows
-    (undone_keeps undoing (answer.Refused eopnotsupp) (suc told) (suc acts) room rows e)
-    (kept_keeps fd undoing label.name label.value next told acts room rows e is)
-
-pub labelled_keeps : (session : BegunSession) (fd : Fd) (undoing : Call) (label : Option SecContext)
-    (next : RequestTree) (told acts room rows : ℕ) → brings_of (Calls undoing) ≡ brings.Nothing →
-    Keeps next told acts room rows →
-    Keeps (labelled session fd undoing label next) (plus 2 told) (plus 2 acts) room rows
-labelled_keeps session fd undoing None next told acts room rows e is = more 2 2 0 0 next told acts room rows is
-labelled_keeps session fd undoing (Some label) next told acts room rows e is =
-    label_keeps session fd undoing label next told acts room rows e is
-
-new_keeps : (plan : Plan) (session : BegunSession) (asked : FileAsked) (dir fd : Fd) (next : NamedHandle → RequestTree)
-    (told acts room rows : ℕ) → ((file : NamedHandle) → Keeps (next file) told acts room rows) →
-    Keeps (new_file plan session asked dir fd next) (plus 15 told) (plus 19 acts) (plus 7 room) (plus 2 rows)
-unfolding new_file
-new_keeps plan session asked dir fd next told acts room rows is =
-    step _ _ _ _ _ _ (λ made.
-    labelled_keeps session fd (call.Unlink dir asked.name) asked.ext.secctx _ (plus 12 told) (plus 16 acts)
-    (plus 7 room) (plus 2 rows) refl (
-    look_up_keeps plan session asked.parent asked.name _ (plus 3 told) (plus 4 acts) (plus 1 room) (plus 1 rows)
-    (λ looked. same_keeps made.ids looked.ids _ _ _ _ _ (
-    handled_keeps session looked.entry.inode fd _ told acts room rows (λ handle. is _)))))
-
-old_keeps : (plan : Plan) (seat : HostSeat) (session : BegunSession) (asked : FileAsked)
-    (next : NamedHandle → RequestTree) (told acts room rows : ℕ) →
-    ((file : NamedHandle) → Keeps (next file) told acts room rows) →
-    Keeps (old_file plan seat session asked next) (plus 18 told) (plus 22 acts) (plus 11 room) (plus 2 rows)
-unfolding old_file
-old_keeps plan seat session asked next told acts room rows is =
-    look_up_keeps plan session asked.parent asked.name _ (plus 9 told) (plus 10 acts) (plus 5 room) (plus 1 rows)
-    (λ looked. open_keeps plan seat session looked.entry.inode asked.kill asked.flags
-    (λ handle. next (named_handle looked.entry handle)) told acts room rows (λ handle. is _))
-
-made_keeps : (plan : Plan) (seat : HostSeat) (session : BegunSession) (asked : FileAsked) (dir : Fd) (made : Made)
-    (next : NamedHandle → RequestTree) (told acts room rows : ℕ) →
-    ((file : NamedHandle) → Keeps (next file) told acts room rows) →
-    Keeps (made_file plan seat session asked dir made next) (plus 18 told) (plus 22 acts) (plus 11 room) (plus 2 rows)
-made_keeps plan seat session asked dir (New fd) next told acts room rows is =
-    more 3 3 4 0 (new_file plan session asked dir fd next) (plus 15 told) (plus 19 acts) (plus 7 room) (plus 2 rows)
-    (new_keeps plan session asked dir fd next told acts room rows is)
-made_keeps plan seat session asked dir Old next told acts room rows is =
-    old_keeps plan seat session asked next told acts room rows is
+-- behind a reply
+pub host_label_keeps : (plan : Plan) (agreed : Negotiated) (brought : Option SecContext)
+    (next : Option Label → RequestTree) (told acts room rows : ℕ) →
+    ((label : Option Label) → Keeps (next label) told acts room rows) →
+    KeepsOn (host_label plan agreed brought next) (suc told) acts room rows
+host_label_keeps plan agreed None next told acts room rows is =
+    sooner (next None) (suc told) acts room rows
+    (more 1 0 0 0 (next None) told acts room rows (is None))
+host_label_keeps plan agreed (Some label) next told acts room rows is =
+    host_name_keeps plan agreed label.name _ told acts room rows (λ name. is _)
 
 group_keeps : (group : Option ℕ) (next : RequestTree) (told acts room rows : ℕ) → Keeps next told acts room rows →
     Keeps (group_set group next) (plus 1 told) (plus 2 acts) (plus 1 room) rows
@@ -338,15 +362,10 @@ asker_keeps seat (Some creds) next told acts room rows is =
     euid_keeps (cred_steps creds seat).euid _ (plus 1 told) (plus 1 acts) room rows (
     raised_keeps (cred_steps creds seat).raise _ told acts room rows is)))
 
-pub making_keeps : (plan : Plan) (seat : HostSeat) (session : BegunSession) (asked : FileAsked) (dir : Fd)
-    (next : NamedHandle → RequestTree) (told acts room rows : ℕ) →
-    ((file : NamedHandle) → Keeps (next file) told acts room rows) →
-    Keeps (make_file plan seat session asked dir next) (plus 24 told) (plus 31 acts) (plus 15 room) (plus 2 rows)
-unfolding make_file
-making_keeps plan seat session asked dir next told acts room rows is =
-    asker_keeps seat (asker_of plan session asked.who asked.ext.sup_gid) _ (plus 20 told) (plus 24 acts)
-    (plus 12 room) (plus 2 rows) (λ reply. step _ _ (plus 18 told) (plus 22 acts) (plus 11 room) (plus 2 rows) (λ made.
-    made_keeps plan seat session asked dir made next told acts room rows is) reply)
+pub umask_keeps : (umask : Option ℕ) (next : RequestTree) (told acts room rows : ℕ) → Keeps next told acts room rows →
+    Keeps (under_umask umask next) (plus 1 told) (plus 2 acts) (plus 1 room) rows
+umask_keeps None next told acts room rows is = more 1 2 1 0 next told acts room rows is
+umask_keeps (Some mask) next told acts room rows is = step _ _ _ _ _ _ (λ done. is)
 
 -- the requests
 pub init_keeps : (plan : Plan) (capable : FsOptions) → Keeps (init plan capable) most_told 48 most_holds most_rows
@@ -373,7 +392,7 @@ pub open_file_keeps : (plan : Plan) (seat : HostSeat) (inode : ℕ) (kill : Bool
     Keeps (begin (open_file plan seat inode kill flags)) most_told 48 most_holds most_rows
 open_file_keeps plan seat inode kill flags = step _ _ _ _ _ _ (λ session.
     open_keeps plan seat session inode kill flags
-    (λ handle. Gives (answer.Opened handle (open_options plan.config flags))) 22 37 12 3 (λ handle. tt))
+    (λ handle. Gives (answer.Opened handle (open_options plan.config flags))) 21 36 12 3 (λ handle. tt))
 
 pub open_dir_keeps : (plan : Plan) (seat : HostSeat) (inode flags : ℕ) →
     Keeps (begin (open_dir plan seat inode flags)) most_told 48 most_holds most_rows
@@ -386,12 +405,6 @@ pub read_keeps : (inode handle size offset : ℕ) →
     Keeps (begin (read inode handle size offset)) most_told 8 most_holds most_rows
 read_keeps inode handle size offset = step _ _ _ _ _ _ (λ session. placed_keeps offset _ _ _ _ _ (
     step _ _ _ _ _ _ (λ fd. step _ _ _ _ _ _ (λ bytes. tt))))
-
-pub create_keeps : (plan : Plan) (seat : HostSeat) (asked : FileAsked) →
-    Keeps (begin (create plan seat asked)) most_told 96 most_holds most_rows
-create_keeps plan seat asked = step _ _ _ _ _ _ (λ session. named_keeps asked.name _ _ _ _ _ (
-    step _ _ _ _ _ _ (λ directory. file_keeps directory.form _ _ _ _ _ (λ dir.
-    making_keeps plan seat session asked dir _ 6 62 1 2 (λ file. tt)))))
 
 pub unserved_keeps : (acts : ℕ) → Keeps (begin unserved) most_told (suc acts) most_holds most_rows
 unserved_keeps acts = step _ _ _ _ _ _ (λ session. tt)

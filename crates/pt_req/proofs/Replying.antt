@@ -1,8 +1,8 @@
 -- What holds of the awaited reply's rest and of a refusal holds of whatever is replied.
 use Rattle.std.proofs.Common.{ℕ, Bool, true, false, List, Option, Some, None, if◌then◌else◌}
-use Rattle.std.specs.Prelude.{◌&&◌}
+use Rattle.std.specs.Prelude.{◌&&◌, ◌||◌}
 use Rattle.std.specs.Ordering.{int_eq}
-use Rattle.pt_host.specs.Errno.{eexist}
+use Rattle.pt_host.specs.Errno.{eexist, enodata, eopnotsupp}
 use Rattle.pt_host.specs.declared.ids.Errno.{Errno}
 use Rattle.pt_host.specs.declared.ids.Fd.{Fd}
 use Rattle.pt_host.specs.declared.stat.Stat.{Stat}
@@ -21,7 +21,7 @@ use Rattle.pt_frame.specs.Replies.{bytes_of}
 use Rattle.pt_frame.specs.declared.act.ActReply.{ActReply}
 use Rattle.pt_frame.specs.declared.act.ActReply.TheVariants.{Event, Host, NoCopy}
 use Rattle.pt_req.specs.Steps.{session_of, began_in, cleared_in, resolved_in, fd_in, ok_in, tried_in}
-use Rattle.pt_req.specs.Steps.{made_in}
+use Rattle.pt_req.specs.Steps.{gone_in, made_in}
 use Rattle.pt_req.specs.Steps.{stat_in, refused_in, claimed_in, taken_in, drawn_in, numbered_in, inserted_in, pinned_in}
 use Rattle.pt_req.specs.Steps.{done_in}
 use Rattle.pt_req.specs.declared.begun.BegunSession.{BegunSession}
@@ -73,6 +73,28 @@ pub if_tried : (P : ActReply → RequestTree → Type 0) (next : RequestTree) �
 unfolding on go_on
 if_tried P next refused so (Host told) = so told
 if_tried P next refused so told = refused told
+
+gone_or : (P : RequestTree → Type 0) (next : RequestTree) (told : ActReply) (b : Bool) → P next → P (Refuses told) →
+    P (go_on (λ done. next) told (if b then Some (tt {0}) else None))
+unfolding go_on
+gone_or P next told true so other = so
+gone_or P next told false so other = other
+
+-- an attribute that went, or was not there
+pub if_gone : (P : ActReply → RequestTree → Type 0) (next : RequestTree) → OfRefusals P →
+    ((told : HostReply) → P (Host told) next) →
+    (told : ActReply) → P told (on gone_in (λ done. next) told)
+unfolding on go_on
+if_gone P next refused so (Host (host.Ok told)) = so (host.Ok told)
+if_gone P next refused so (Host (host.Refused errno)) =
+    gone_or (P (Host (host.Refused errno))) next (Host (host.Refused errno))
+    (int_eq errno.0 enodata.0 || int_eq errno.0 eopnotsupp.0) (so (host.Refused errno))
+    (refused (Host (host.Refused errno)))
+if_gone P next refused so (Host (host.Fault errno)) =
+    gone_or (P (Host (host.Fault errno))) next (Host (host.Fault errno))
+    (int_eq errno.0 enodata.0 || int_eq errno.0 eopnotsupp.0) (so (host.Fault errno))
+    (refused (Host (host.Fault errno)))
+if_gone P next refused so told = refused told
 
 there_or : (P : RequestTree → Type 0) (next : Made → RequestTree) (told : ActReply) (b : Bool) → P (next Old) →
     P (Refuses told) → P (go_on next told (if b then Some Old else None))

@@ -1,10 +1,7 @@
 -- What the chains of pt_req need beside those of the frame.
-use Rattle.std.proofs.Common.{◌≡◌, ℕ, false, List, Option, Some, None, Ok, refl, slice_get}
-use Rattle.pt_host.specs.Call.{Call}
-use Rattle.pt_host.specs.declared.ids.Fd.{Fd}
+use Rattle.std.proofs.Common.{◌≡◌, ℕ, List, Option, Some, None, Ok, refl, slice_get}
 use Rattle.pt_host.specs.declared.reply.HostReply.TheVariants as host
 use Rattle.pt_host.specs.declared.reply.HostValue.TheVariants as value
-use Rattle.pt_iface.specs.declared.request.SecContext.{SecContext}
 use Rattle.pt_frame.specs.Replies.{bytes_of}
 use Rattle.pt_frame.specs.Machine.Walk.{GoesOn, IsWithBytes, Reads, bytes_in, reply_in}
 use Rattle.pt_frame.specs.Tree.{RequestTree, on}
@@ -13,9 +10,6 @@ use Rattle.pt_frame.specs.declared.act.ActReply.TheVariants.{Host}
 use Rattle.pt_frame.specs.declared.told.Heard.{Heard}
 use Rattle.pt_frame.specs.declared.told.Heard.TheVariants as told
 use Rattle.pt_frame.proofs.Reading.{bytes_there, here, on_value}
-use Rattle.pt_req.specs.Attributes.{is_blocked}
-use Rattle.pt_req.specs.Creating.{kept_with, label_set}
-use Rattle.pt_req.specs.declared.begun.BegunSession.{BegunSession}
 
 here_by : {T : Type 0} (all : List Heard) (at : ℕ) (value same : T) (next : T → RequestTree) → value ≡ same →
     Reads all at at (Ok value) (next same) next
@@ -26,13 +20,6 @@ pub here_as : {T : Type 0} {all : List Heard} {at : ℕ} {value same : T} (next 
     Reads all at at (Ok value) (next same) next
 here_as next is = here_by _ _ _ _ next is
 
--- a name that is not blocked
-pub kept_unless : (session : BegunSession) (fd : Fd) (undoing : Call) (label : SecContext) (next : RequestTree) →
-    is_blocked session.agreed label.name ≡ false →
-    label_set session fd undoing label next ≡ kept_with fd undoing label.name label.value next
-unfolding label_set
-kept_unless session fd undoing label next is = rw is refl
-
 -- bytes, by the place of the reply that has them
 pub has_bytes : (it : Option Heard) (reply : ActReply) (bytes : List ℕ) → reply_in it ≡ Some reply →
     reply ≡ Host (host.Ok (value.Bytes bytes)) → IsWithBytes it
@@ -42,6 +29,7 @@ has_bytes (Some (told.Reply other may)) reply bytes is same =
 has_bytes (Some told.Bares) reply bytes is same = absurd (cc)
 has_bytes (Some told.Brackets) reply bytes is same = absurd (cc)
 has_bytes (Some told.Shuts) reply bytes is same = absurd (cc)
+has_bytes (Some (told.Kept kept)) reply bytes is same = absurd (cc)
 
 in_place_by : (all : List Heard) (at place : ℕ) (next : List ℕ → RequestTree) (reply : ActReply) (bytes : List ℕ) →
     reply_in (slice_get all place) ≡ Some reply → bytes_of reply ≡ Some bytes →

@@ -6,6 +6,7 @@ use Rattle.pt_host.specs.Call.{Call}
 use Rattle.pt_host.specs.Sorts.{Sort, OpensWith, EndsFd, OfSeat, Plain, sort_of}
 use Rattle.pt_host.specs.declared.flags.Caps.{Caps}
 use Rattle.pt_host.specs.declared.op.KeptHostOp.TheVariants as call
+use Rattle.pt_host.specs.declared.reply.HostReply.{HostReply}
 use Rattle.pt_host.specs.declared.reply.HostReply.TheVariants as host
 use Rattle.pt_host.specs.declared.reply.HostValue.{HostValue}
 use Rattle.pt_host.specs.declared.seat.HostSeat.{HostSeat}
@@ -25,7 +26,7 @@ use Rattle.pt_frame.specs.declared.hold.Hold.{Hold}
 use Rattle.pt_frame.specs.declared.hold.Hold.TheVariants as hold
 use Rattle.pt_frame.specs.declared.hold.Taken.TheVariants.{Nothing}
 use Rattle.pt_frame.proofs.Wearing.{wears_same}
-use Rattle.pt_req.specs.Asker.{group_set, egid_set, euid_set, cap_raised}
+use Rattle.pt_req.specs.Asker.{group_set, egid_set, euid_set, cap_raised, under_umask}
 use Rattle.pt_req.specs.Capability.{fsetid}
 use Rattle.pt_req.specs.Steps.{open_scope, tried_in}
 use Rattle.pt_req.proofs.Replying.{if_set, if_tried}
@@ -71,45 +72,60 @@ scopes seat asked scope rest worn is so = (
       (sym (worn_ok (is_open asked worn) (sort_of asked) asked told worn is.shut is.own)) so),
 )
 
+-- no umask is set
+abbrev Unmasked : List Call → Type 0
+Unmasked worn = (mask : ℕ) → is_open (call.SetUmask mask) worn ≡ false
+
+-- a capability that is raised is none
+raised_unmasked : (ends : Bool) (told : HostReply) (worn : List Call) → ends ≡ false → Unmasked worn →
+    Unmasked (worn_called ends OfSeat (call.RaiseCap override_cap) (Host told) worn)
+raised_unmasked true told worn low none = absurd (cc)
+raised_unmasked false (host.Ok value) worn low none = none
+raised_unmasked false (host.Refused errno) worn low none = none
+raised_unmasked false (host.Fault errno) worn low none = none
+raised_unmasked false host.NoMemory worn low none = none
+
 -- An identity that is taken on by these steps is worn by what follows. A capability is raised only where the uid was
 -- changed.
-module _ (seat : HostSeat) (rest : RequestTree) (any : (worn : List Call) → Tends seat rest worn) where
-  on_euid : (worn : List Call) → ((id : ℕ) → is_open (call.SetEuid id) worn ≡ false) →
+module _ (seat : HostSeat) (rest : RequestTree) (any : (worn : List Call) → Unmasked worn → Tends seat rest worn) where
+  on_euid : (worn : List Call) → Unmasked worn → ((id : ℕ) → is_open (call.SetEuid id) worn ≡ false) →
       ((caps : Caps) → is_open (call.RaiseCap caps) worn ≡ false) → (euid : Option ℕ) (keeps : Bool) →
       Tends seat (euid_set euid (cap_raised (keeps && is_some euid) rest)) worn
-  on_euid worn shut low None true = any worn
-  on_euid worn shut low None false = any worn
-  on_euid worn shut low (Some uid) true =
+  on_euid worn none shut low None true = any worn none
+  on_euid worn none shut low None false = any worn none
+  on_euid worn none shut low (Some uid) true =
       scopes seat (call.SetEuid uid) hold.EffectiveUid (cap_raised true rest) worn
       (record { own = refl; scoped = refl; shut = shut uid; back = refl }) (
         (tt, low override_cap, omega arith),
         λ told. (
           tt,
           if_tried (λ told tree. Tends seat tree (worn_after (call.SetEuid uid ∷ worn)
-              (Calls (call.RaiseCap override_cap)) told)) rest (λ told. tt) (λ told. any _) told,
+              (Calls (call.RaiseCap override_cap)) told)) rest (λ told. tt)
+              (λ told. any _ (raised_unmasked (is_open (call.RaiseCap override_cap) worn) told
+              (call.SetEuid uid ∷ worn) (low override_cap) none)) told,
         ),
       )
-  on_euid worn shut low (Some uid) false = scopes seat (call.SetEuid uid) hold.EffectiveUid rest worn
-      (record { own = refl; scoped = refl; shut = shut uid; back = refl }) (any _)
+  on_euid worn none shut low (Some uid) false = scopes seat (call.SetEuid uid) hold.EffectiveUid rest worn
+      (record { own = refl; scoped = refl; shut = shut uid; back = refl }) (any _ none)
 
-  on_egid : (worn : List Call) → ((id : ℕ) → is_open (call.SetEgid id) worn ≡ false) →
+  on_egid : (worn : List Call) → Unmasked worn → ((id : ℕ) → is_open (call.SetEgid id) worn ≡ false) →
       ((id : ℕ) → is_open (call.SetEuid id) worn ≡ false) →
       ((caps : Caps) → is_open (call.RaiseCap caps) worn ≡ false) →
       (egid euid : Option ℕ) (keeps : Bool) →
       Tends seat (egid_set egid (euid_set euid (cap_raised (keeps && is_some euid) rest))) worn
-  on_egid worn first shut low None euid keeps = on_euid worn shut low euid keeps
-  on_egid worn first shut low (Some gid) euid keeps = scopes seat (call.SetEgid gid) hold.EffectiveGid
+  on_egid worn none first shut low None euid keeps = on_euid worn none shut low euid keeps
+  on_egid worn none first shut low (Some gid) euid keeps = scopes seat (call.SetEgid gid) hold.EffectiveGid
       (euid_set euid (cap_raised (keeps && is_some euid) rest)) worn
       (record { own = refl; scoped = refl; shut = first gid; back = refl })
-      (on_euid (call.SetEgid gid ∷ worn) shut low euid keeps)
+      (on_euid (call.SetEgid gid ∷ worn) none shut low euid keeps)
 
   on_steps : (groups egid euid : Option ℕ) (keeps : Bool) →
       Tends seat (group_set groups (egid_set egid (euid_set euid (cap_raised (keeps && is_some euid) rest)))) []
-  on_steps None egid euid keeps = on_egid [] (λ id. refl) (λ id. refl) (λ caps. refl) egid euid keeps
+  on_steps None egid euid keeps = on_egid [] (λ mask. refl) (λ id. refl) (λ id. refl) (λ caps. refl) egid euid keeps
   on_steps (Some group) egid euid keeps = scopes seat (call.SetGroups (group ∷ [])) hold.Groups
       (egid_set egid (euid_set euid (cap_raised (keeps && is_some euid) rest))) []
       (record { own = refl; scoped = refl; shut = refl; back = refl })
-      (on_egid (call.SetGroups (group ∷ []) ∷ []) (λ id. refl) (λ id. refl) (λ caps. refl) egid euid keeps)
+      (on_egid (call.SetGroups (group ∷ []) ∷ []) (λ mask. refl) (λ id. refl) (λ id. refl) (λ caps. refl) egid euid keeps)
 
 -- what is no call on the seat changes nothing of it
 plainly : (seat : HostSeat) (deed : Deed) (next : ActReply → RequestTree) → is_of_seat deed ≡ false →
@@ -131,6 +147,16 @@ making_tends seat (call.MakeNode dir name mode rdev) next is so worn = (tt, λ t
 making_tends seat (call.SymLink dir name target) next is so worn = (tt, λ told. (tt, so told))
 making_tends seat asked next is so worn = absurd (cc)
 
+-- and under a umask, if one is to be set
+masked_tends : (seat : HostSeat) (umask : Option ℕ) (making : Call) (next : ActReply → RequestTree) →
+    is_making (Calls making) ≡ true → ((told : ActReply) → Tends seat (next told) []) → (worn : List Call) →
+    Unmasked worn → Tends seat (under_umask umask (Asks (Calls making) (λ told. Bares (next told)))) worn
+masked_tends seat None making next is so worn none = making_tends seat making next is so worn
+masked_tends seat (Some mask) making next is so worn none =
+    scopes seat (call.SetUmask mask) hold.Umask (Asks (Calls making) (λ told. Bares (next told))) worn
+    (record { own = refl; scoped = refl; shut = none mask; back = refl })
+    (making_tends seat making next is so (call.SetUmask mask ∷ worn))
+
 -- under the scope of the capability nothing else of the seat is changed, until it ends
 tends_in : (seat : HostSeat) (worn : List Call) (told : ActReply) (tree : RequestTree) →
     InScope (λ dropped asked. Unit {0}) true (λ rest. Tends seat rest []) told tree → Tends seat tree worn
@@ -151,10 +177,11 @@ tends_in seat worn told (Bares rest) so = so
 tends_in seat worn told (Opens asked scope next) so = absurd so
 tends_in seat worn told (Brackets rest) so = absurd so
 tends_in seat worn told (Shuts passes rest) so = absurd so
-tends_in seat worn told (Allocates rest) so = absurd so
+tends_in seat worn told (Allocates made next) so = absurd so
 
 -- no scope is open
-pub bare : (seat : HostSeat) → Walk seat (λ creds. Unit {0}) (λ dropped asked. Unit {0}) (λ tree. Tends seat tree [])
+pub bare : (seat : HostSeat) → Walk seat (λ creds umask. Unit {0}) (λ dropped asked. Unit {0})
+    (λ tree. Tends seat tree [])
     (λ told tree. Tends seat tree [])
 bare seat = record {
   gives = λ last is. (is.0, passes_bare (passes_with last));
@@ -167,9 +194,9 @@ bare seat = record {
   brackets = λ rest so. so;
   shuts = λ passes rest so. (refl, so);
   shuts_after = λ told passes rest so. (refl, so);
-  makes_as = λ creds making next is may so.
-      on_steps seat (Asks (Calls making) (λ told. Bares (next told)))
-      (making_tends seat making next is so) creds.sup_gid (id_to_set creds.gid seat.eff_gid)
+  makes_as = λ creds umask making next is may so.
+      on_steps seat (under_umask umask (Asks (Calls making) (λ told. Bares (next told))))
+      (masked_tends seat umask making next is so) creds.sup_gid (id_to_set creds.gid seat.eff_gid)
       (id_to_set creds.uid seat.eff_uid) creds.keep_capability;
   bares = λ rest so. so;
   drops = λ rest has so. scopes seat (call.DropCap fsetid) (hold.Dropped fsetid) rest []
@@ -199,7 +226,7 @@ spares_more one other more (Opens asked scope next) so = λ told.
 spares_more one other more (Bares rest) so = spares_more one other more rest so
 spares_more one other more (Brackets rest) so = spares_more one other more rest so
 spares_more one other more (Shuts passes rest) so = spares_more one other more rest so
-spares_more one other more (Allocates rest) so = so
+spares_more one other more (Allocates made next) so = so
 
 spared_scope : (asked : Call) (scope : Hold) (rest : RequestTree) → IsSparing false rest →
     IsSparing false (open_scope asked scope rest)
@@ -232,6 +259,11 @@ module _ (rest : RequestTree) (so : IsSparing false rest) where
       spared_scope (call.SetGroups (group ∷ [])) hold.Groups
       (egid_set egid (euid_set euid (cap_raised raise rest))) (spares_egid egid euid raise)
 
+spares_umask : (umask : Option ℕ) (rest : RequestTree) → IsSparing false rest →
+    IsSparing false (under_umask umask rest)
+spares_umask None rest so = so
+spares_umask (Some mask) rest so = spared_scope (call.SetUmask mask) hold.Umask rest so
+
 -- memory that ran out once did so
 out_before : (later lacks : Bool) → lacks ≡ true → (later || (lacks || false)) ≡ true
 out_before true lacks e = refl
@@ -253,11 +285,11 @@ spares_in told (Bares rest) so = spares_more false (lacks_memory told || false) 
 spares_in told (Opens asked scope next) so = absurd so
 spares_in told (Brackets rest) so = absurd so
 spares_in told (Shuts passes rest) so = absurd so
-spares_in told (Allocates rest) so = absurd so
+spares_in told (Allocates made next) so = absurd so
 
 -- no memory ran out so far
 pub in_full : (seat : HostSeat) →
-    Walk seat (λ creds. Unit {0}) (λ dropped asked. Unit {0}) (λ tree. IsSparing false tree)
+    Walk seat (λ creds umask. Unit {0}) (λ dropped asked. Unit {0}) (λ tree. IsSparing false tree)
     (λ told tree. IsSparing (lacks_memory told || false) tree)
 in_full seat = record {
   gives = λ last is. λ out. absurd (is.1 out);
@@ -271,8 +303,9 @@ in_full seat = record {
   brackets = λ rest so. so;
   shuts = λ passes rest so. so;
   shuts_after = λ told passes rest so. so;
-  makes_as = λ creds making next is may so.
-      spares_steps (Asks (Calls making) (λ told. Bares (next told))) so creds.sup_gid
+  makes_as = λ creds umask making next is may so.
+      spares_steps (under_umask umask (Asks (Calls making) (λ told. Bares (next told))))
+      (spares_umask umask (Asks (Calls making) (λ told. Bares (next told))) so) creds.sup_gid
       (id_to_set creds.gid seat.eff_gid) (id_to_set creds.uid seat.eff_uid)
       (creds.keep_capability && is_some (id_to_set creds.uid seat.eff_uid));
   bares = λ rest so. so;

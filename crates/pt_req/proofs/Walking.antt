@@ -1,11 +1,11 @@
 -- What holds of plain answers and refusals, and passes through each step that is no call on the seat and through a
--- making as whoever asks, holds of each request: none takes memory of its own.
-use Rattle.std.proofs.Common.{◌≡◌, ℕ, Bool, true, false, ◌&&◌, List, Option, Some, None, refl, sym, subst}
-use Rattle.std.proofs.Common.{if◌then◌else◌}
+-- making as whoever asks, holds of each request.
+use Rattle.std.proofs.Common.{◌≡◌, ℕ, Bool, true, false, ◌&&◌, List, Option, Some, None, refl, sym, subst, Result, Ok}
+use Rattle.std.proofs.Common.{Err, if◌then◌else◌}
 use Rattle.pt_host.specs.Call.{Call}
-use Rattle.pt_host.specs.Errno.{eperm, ebadf, einval, eopnotsupp, estale, errno_of}
+use Rattle.pt_host.specs.Errno.{eio, eperm, ebadf, einval, eopnotsupp, eproto, errno_of}
 use Rattle.pt_host.specs.declared.ids.Errno.{Errno}
-use Rattle.pt_host.specs.Flags.{includes, o_creat}
+use Rattle.pt_host.specs.Flags.{includes, o_creat, o_trunc}
 use Rattle.pt_host.specs.declared.ids.Fd.{Fd}
 use Rattle.pt_host.specs.declared.ids.ObjIds.{ObjIds}
 use Rattle.pt_host.specs.declared.handle.FileHandle.{FileHandle}
@@ -14,6 +14,10 @@ use Rattle.pt_host.specs.declared.stat.Stat.{Stat}
 use Rattle.pt_host.specs.declared.flags.OpenFlags.{OpenFlags}
 use Rattle.pt_host.specs.declared.op.KeptHostOp.TheVariants as call
 use Rattle.pt_host.specs.declared.reply.HostReply.TheVariants as host
+use Rattle.pt_maps.specs.MappedNames.{client_name}
+use Rattle.pt_maps.specs.declared.xattr_map.AppliedRule.{AppliedRule}
+use Rattle.pt_maps.specs.declared.xattr_map.AppliedRule.TheVariants as applied
+use Rattle.pt_maps.specs.declared.xattr_rule.XattrRule.{XattrRule}
 use Rattle.pt_creds.specs.Identity.{Credentials}
 use Rattle.pt_creds.specs.Steps.{cred_steps}
 use Rattle.pt_session.specs.declared.form.RowForm.{RowForm}
@@ -30,37 +34,33 @@ use Rattle.pt_frame.specs.Replies.{bytes_of, is_cut, closings_in, passes_with}
 use Rattle.pt_frame.specs.Sparing.{IsNoMemory}
 use Rattle.pt_frame.specs.Tended.{is_of_seat}
 use Rattle.pt_frame.specs.Tree.{RequestTree, Gives, Refuses, Asks, Opens, Bares, Brackets, Shuts, Allocates, on}
+use Rattle.pt_frame.specs.Tree.{by_bytes}
 use Rattle.pt_frame.specs.declared.act.ActReply.{ActReply}
 use Rattle.pt_frame.specs.declared.act.ActReply.TheVariants.{Event, Host, NoCopy}
+use Rattle.pt_frame.specs.declared.product.Product.{Product}
+use Rattle.pt_frame.specs.declared.product.Product.TheVariants as product
 use Rattle.pt_session.specs.Tables.{nothing_agreed}
-use Rattle.pt_req.specs.Options.{cleaned, inode_flags, agreed_with, init_options, open_options}
-use Rattle.pt_req.specs.Options.{making_flags, create_options, without_nofollow}
-use Rattle.pt_req.specs.Steps.{session_of, began_in, cleared_in, resolved_in, fd_in, tried_in, made_in, claim_of}
-use Rattle.pt_req.specs.Steps.{new_row_of, new_root_of, new_handle_of}
-use Rattle.pt_req.specs.Steps.{stat_in, refused_in, claimed_in, taken_in, drawn_in, numbered_in, inserted_in, pinned_in}
-use Rattle.pt_req.specs.Steps.{done_in, begin, clear, resolve, open_root, open_at, reopen, stat, read_at, claim}
-use Rattle.pt_req.specs.Steps.{take_fd}
-use Rattle.pt_req.specs.Steps.{draw_node, draw_handle, insert, insert_root, insert_handle, pin_handle, forget_all}
-use Rattle.pt_req.specs.Steps.{release_handle, or_refused}
-use Rattle.pt_req.specs.Attributes.{is_blocked}
-use Rattle.pt_req.specs.Capability.{fsetid, drops_fsetid, without_fsetid}
+use Rattle.pt_req.specs.Options.{cleaned, inode_flags, is_short_of, agreed_with, init_options, open_options}
+use Rattle.pt_req.specs.Options.{without_nofollow}
+use Rattle.pt_req.specs.Steps.{session_of, began_in, cleared_in, resolved_in, fd_in, gone_in, tried_in, claim_of}
+use Rattle.pt_req.specs.Steps.{new_row_of, new_root_of, new_handle_of, stat_in, claimed_in, taken_in, drawn_in}
+use Rattle.pt_req.specs.Steps.{numbered_in, inserted_in, pinned_in, done_in, begin, clear, resolve, open_root, open_at}
+use Rattle.pt_req.specs.Steps.{reopen, stat, read_at, claim, take_fd, draw_node, draw_handle, insert, insert_root}
+use Rattle.pt_req.specs.Steps.{insert_handle, pin_handle, forget_all, release_handle}
+use Rattle.pt_req.specs.Attributes.{Label, by_rule, by_rules, host_label, host_name, is_blocked}
+use Rattle.pt_req.specs.Capability.{capability_cleared, cleared_if, fsetid, drops_fsetid, without_fsetid}
 use Rattle.pt_req.specs.Entries.{is_bad_name, is_bad_offset, can_open}
 use Rattle.pt_req.specs.Parts.{by_path, named, placed, file_of, open_form, open_row, numbered_as, numbered, looked_of}
 use Rattle.pt_req.specs.Parts.{look_up, handled, open_inode, open_num, root_open}
-use Rattle.pt_req.specs.Asker.{taken_on, as_asker, asker_of}
-use Rattle.pt_req.specs.Creating.{FileAsked, are_same, if_same, undone, label_set, labelled, named_handle, new_file}
-use Rattle.pt_req.specs.Creating.{old_file, made_file, make_file, takes_old}
-use Rattle.pt_req.specs.Requests.{init, destroy, root, lookup, batch_forget, open_file, release, read, create}
+use Rattle.pt_req.specs.Asker.{taken_on, as_asker, asker_of, umask_of, under_umask}
+use Rattle.pt_req.specs.Requests.{init_answer, init, destroy, root, lookup, batch_forget, open_file, release, read}
 use Rattle.pt_req.specs.Requests.{unserved}
 use Rattle.pt_req.specs.declared.begun.BegunSession.{BegunSession}
-use Rattle.pt_req.specs.declared.parts.asked.NamedHandle.{NamedHandle}
 use Rattle.pt_req.specs.declared.parts.looked.Looked.{Looked}
 use Rattle.pt_req.specs.declared.plan.Plan.{Plan}
 use Rattle.pt_session.specs.declared.reply.Resolved.{Resolved}
-use Rattle.pt_req.proofs.Flags.{creates as creates_file}
 use Rattle.pt_req.proofs.Replying.{if_began, if_cleared, if_resolved, if_fd, if_stat, if_bytes, if_claimed, if_taken}
-use Rattle.pt_req.proofs.Replying.{if_made, if_refused, if_tried, if_drawn, if_numbered, if_inserted, if_pinned}
-use Rattle.pt_req.proofs.Replying.{if_done}
+use Rattle.pt_req.proofs.Replying.{if_gone, if_drawn, if_numbered, if_inserted, if_pinned, if_done}
 
 -- an answer that is neither given up nor cut
 abbrev pub IsPlain : Answer → Type 0
@@ -74,13 +74,14 @@ is_making (Calls (call.MakeNode dir name mode rdev)) = true
 is_making (Calls (call.SymLink dir name target)) = true
 is_making deed = false
 
--- What has to hold of a call by which set-id bits may go, made without the capability or with it, and of the event
--- that says what is agreed on. No other call is made without the capability.
+-- What has to hold of a call by which set-id bits or a file's capabilities may go, made without the capability or with
+-- it, and of the event that says what is agreed on. No other call is made without the capability.
 abbrev pub OfDeed : (Bool → Deed → Type 0) → Bool → Deed → Type 0
 OfDeed D dropped (Calls (call.Reopen fd flags)) = D dropped (Calls (call.Reopen fd flags))
 OfDeed D dropped (Calls (call.WriteAt fd offset bytes append)) =
     D dropped (Calls (call.WriteAt fd offset bytes append))
 OfDeed D dropped (Calls (call.Truncate fd size)) = D dropped (Calls (call.Truncate fd size))
+OfDeed D dropped (Calls (call.RemoveXattr fd through name)) = D dropped (Calls (call.RemoveXattr fd through name))
 OfDeed D dropped (Calls asked) = dropped ≡ false
 OfDeed D dropped (Changes (change.InsertRoot new)) = D dropped (Changes (change.InsertRoot new))
 OfDeed D dropped (Changes asked) = Unit {0}
@@ -98,7 +99,7 @@ InScope D dropped Q told (Bares rest) = Q rest
 InScope D dropped Q told (Opens asked scope next) = ⊥
 InScope D dropped Q told (Brackets rest) = ⊥
 InScope D dropped Q told (Shuts passes rest) = ⊥
-InScope D dropped Q told (Allocates rest) = ⊥
+InScope D dropped Q told (Allocates made next) = ⊥
 
 -- whatever is replied before
 abbrev pub Scoped : (Bool → Deed → Type 0) → Bool → (RequestTree → Type 0) → RequestTree → Type 0
@@ -108,7 +109,7 @@ Scoped D dropped Q tree = (told : ActReply) → InScope D dropped Q told tree
 -- making, and of each deed of which more is asked.
 pub record Walk
     (seat : HostSeat)
-    (M : Credentials → Type 0)
+    (M : Credentials → Option ℕ → Type 0)
     (D : Bool → Deed → Type 0)
     (Q : RequestTree → Type 0)
     (R : ActReply → RequestTree → Type 0)
@@ -125,23 +126,46 @@ pub record Walk
   pub shuts : (passes : Bool) (rest : RequestTree) → Q rest → Q (Shuts passes rest)
   -- a bracket ends behind a reply
   pub shuts_after : (told : ActReply) (passes : Bool) (rest : RequestTree) → R told rest → R told (Shuts passes rest)
-  pub makes_as : (creds : Credentials) (making : Call) (next : ActReply → RequestTree) →
-      is_making (Calls making) ≡ true → M creds → ((told : ActReply) → R told (next told)) →
-      Q (taken_on (cred_steps creds seat) (Asks (Calls making) (λ told. Bares (next told))))
+  pub makes_as : (creds : Credentials) (umask : Option ℕ) (making : Call) (next : ActReply → RequestTree) →
+      is_making (Calls making) ≡ true → M creds umask → ((told : ActReply) → R told (next told)) →
+      Q (taken_on (cred_steps creds seat) (under_umask umask (Asks (Calls making) (λ told. Bares (next told)))))
   -- no scope is open
   pub bares : (rest : RequestTree) → Q rest → Q (Bares rest)
   -- the capability is dropped, which is effective
   pub drops : (rest : RequestTree) → includes seat.eff_caps.0 fsetid.0 ≡ true → Scoped D true Q rest →
       Q (without_fsetid true rest)
 
--- it holds of whoever asks, who tells this group
-abbrev pub OfAsker : (Credentials → Type 0) → Plan → Context → Option ℕ → Type 0
-OfAsker M plan who group =
-    (session : BegunSession) (creds : Credentials) → asker_of plan session who group ≡ Some creds → M creds
+-- it holds of what takes memory, where it holds of what follows
+abbrev pub OfMade : (RequestTree → Type 0) → Type 0
+OfMade Q = (made : Product) (next : Product → RequestTree) → ((kept : Product) → Q (next kept)) →
+    Q (Allocates made next)
+
+-- likewise where a context is brought
+abbrev pub OfLabel : (RequestTree → Type 0) → Option SecContext → Type 0
+OfLabel Q None = Unit {0}
+OfLabel Q (Some label) = OfMade Q
+
+-- it holds of whoever asks in this session, who tells this group and this umask
+abbrev pub OfAskerIn :
+    (Credentials → Option ℕ → Type 0) → Plan → BegunSession → Context → Option ℕ → Option ℕ → Type 0
+OfAskerIn M plan session who group umask =
+    (creds : Credentials) → asker_of plan session who group ≡ Some creds → M creds (umask_of session umask)
+
+-- and in every session
+abbrev pub OfAsker : (Credentials → Option ℕ → Type 0) → Plan → Context → Option ℕ → Option ℕ → Type 0
+OfAsker M plan who group umask = (session : BegunSession) → OfAskerIn M plan session who group umask
 
 -- what has to hold of each opening of a request
 abbrev pub OfOpening : (Bool → Deed → Type 0) → Bool → Type 0
 OfOpening D dropped = (fd : Fd) (how : OpenFlags) → D dropped (Calls (call.Reopen fd how))
+
+-- of each removal of an attribute, by a descriptor alone or through its link in `/proc`
+abbrev pub OfRemoval : (Bool → Deed → Type 0) → Bool → Bool → Type 0
+OfRemoval D dropped through = (fd : Fd) (name : List ℕ) → D dropped (Calls (call.RemoveXattr fd through name))
+
+-- and of an opening by which a file may be emptied
+abbrev pub OfEmptying : (Bool → Deed → Type 0) → Bool → Type 0
+OfEmptying D dropped = OfOpening D dropped × OfRemoval D false false
 
 -- and of what it says to be agreed on, with the root
 abbrev pub OfRoot : (Bool → Deed → Type 0) → Option Negotiated → Type 0
@@ -188,6 +212,19 @@ module _ (D : Bool → Deed → Type 0) (dropped : Bool) (Q : RequestTree → Ty
   in_opens_row row flags next may so =
       in_checked (can_open row.mode) _ ebadf (in_opens_form row.form flags next may so)
 
+  -- a file's capabilities go
+  pub in_clears : (name : Option (List ℕ)) (fd : Fd) (through : Bool) (next : RequestTree) →
+      OfRemoval D dropped through → Scoped D dropped Q next →
+      Scoped D dropped Q (capability_cleared name fd through next)
+  in_clears None fd through next may so = so
+  in_clears (Some name) fd through next may so = λ told. (
+    refl,
+    refl,
+    may fd name,
+    (λ later. refl),
+    if_gone (InScope D dropped Q) next (λ later. refl) (λ later. so (Host later)),
+  )
+
 third : (one other last : Bool) → (one && other && last) ≡ true → last ≡ true
 third true true last e = e
 third true false last e = absurd (cc)
@@ -195,7 +232,7 @@ third false other last e = absurd (cc)
 
 module _
     {seat : HostSeat}
-    {M : Credentials → Type 0}
+    {M : Credentials → Option ℕ → Type 0}
     {D : Bool → Deed → Type 0}
     {Q : RequestTree → Type 0}
     {R : ActReply → RequestTree → Type 0}
@@ -354,10 +391,6 @@ module _
     unfolding placed
     places offset next so = checks (is_bad_offset offset) _ _ (refuses_so einval) so
 
-    pub is_same : (made found : ObjIds) (next : RequestTree) → Q next → Q (if_same made found next)
-    unfolding if_same
-    is_same made found next so = checked (are_same made found) _ _ so (refuses_so estale)
-
     -- what holds under a scope holds under none
     behind_reply : (told : ActReply) (tree : RequestTree) → InScope D false Q told tree → R told tree
     behind_reply told (Gives last) so = w.had told (Gives last) (w.gives last so.0)
@@ -368,7 +401,7 @@ module _
     behind_reply told (Opens asked scope next) so = absurd so
     behind_reply told (Brackets rest) so = absurd so
     behind_reply told (Shuts passes rest) so = absurd so
-    behind_reply told (Allocates rest) so = absurd so
+    behind_reply told (Allocates made next) so = absurd so
 
     unscoped : (tree : RequestTree) → Scoped D false Q tree → Q tree
     unscoped (Gives last) so = w.gives last (so NoCopy).0
@@ -382,7 +415,33 @@ module _
     unscoped (Opens asked scope next) so = absurd (so NoCopy)
     unscoped (Brackets rest) so = absurd (so NoCopy)
     unscoped (Shuts passes rest) so = absurd (so NoCopy)
-    unscoped (Allocates rest) so = absurd (so NoCopy)
+    unscoped (Allocates made next) so = absurd (so NoCopy)
+
+    -- by the host's name of an attribute
+    by_rule_so : (may : OfMade Q) (fate : Option AppliedRule) (next : Result (List ℕ) Errno → RequestTree) →
+        ((name : Result (List ℕ) Errno) → Q (next name)) → Q (by_rule fate next)
+    by_rule_so may (Some (applied.Pass made)) next so =
+        may (product.Bytes made) (by_bytes (λ kept. next (Ok kept))) by
+      where
+        by : (kept : Product) → Q (by_bytes (λ name. next (Ok name)) kept)
+        by (product.Bytes bytes) = so (Ok bytes)
+        by (product.Entries entries) = refuses_so eio
+    by_rule_so may (Some applied.Deny) next so = so (Err eperm)
+    by_rule_so may (Some applied.Unsupported) next so = so (Err eopnotsupp)
+    by_rule_so may None next so = so (Err eopnotsupp)
+
+    by_rules_so : (may : OfMade Q) (rules : Option (List XattrRule)) (name : List ℕ)
+        (next : Result (List ℕ) Errno → RequestTree) → ((name : Result (List ℕ) Errno) → Q (next name)) →
+        Q (by_rules rules name next)
+    by_rules_so may None name next so = so (Ok name)
+    by_rules_so may (Some rules) name next so = by_rule_so may (client_name rules name) next so
+
+    pub names_host : (may : OfMade Q) (plan : Plan) (agreed : Negotiated) (name : List ℕ)
+        (next : Result (List ℕ) Errno → RequestTree) → ((name : Result (List ℕ) Errno) → Q (next name)) →
+        Q (host_name plan agreed name next)
+    unfolding host_name
+    names_host may plan agreed name next so =
+        checks (is_blocked agreed name) _ _ (so (Err eopnotsupp)) (by_rules_so may plan.config.xattrmap name next so)
 
     -- without the capability, where it is to be dropped
     pub drops_if : (plan : Plan) (kill : Bool) (rest : RequestTree) →
@@ -396,13 +455,25 @@ module _
         either true has so = w.drops rest (has refl) so
         either false has so = unscoped rest so
 
+    pub clears_capability : (name : Option (List ℕ)) (fd : Fd) (through : Bool) (next : RequestTree) →
+        OfRemoval D false through → Q next → Q (capability_cleared name fd through next)
+    clears_capability None fd through next may so = so
+    clears_capability (Some name) fd through next may so =
+        w.asks (Calls (call.RemoveXattr fd through name)) (on gone_in (λ done. next)) refl refl (may fd name)
+        (if_gone R next w.refuses (λ told. w.had _ _ so))
+
+    clears_if : (emptied : Bool) (name : Option (List ℕ)) (fd : Fd) (next : RequestTree) →
+        OfRemoval D false false → Q next → Q (cleared_if emptied name fd next)
+    clears_if false name fd next may so = so
+    clears_if true name fd next may so = clears_capability name fd false next may so
+
     pub handles : (session : BegunSession) (number : ℕ) (fd : Fd) (next : ℕ → RequestTree) →
         ((handle : ℕ) → Q (next handle)) → Q (handled session number fd next)
     handles session number fd next so =
         draws_handle _ (λ handle. takes _ (inserts_handle session handle number fd _ (so handle)))
 
     pub opens_num : (plan : Plan) (session : BegunSession) (number : ℕ) (kill : Bool) (flags : ℕ)
-        (next : ℕ → RequestTree) → OfOpening D (drops_fsetid plan seat kill) → ((handle : ℕ) → Q (next handle)) →
+        (next : ℕ → RequestTree) → OfEmptying D (drops_fsetid plan seat kill) → ((handle : ℕ) → Q (next handle)) →
         Q (open_num plan seat session number kill flags next)
     opens_num plan session number kill flags next may so =
         let dropped = drops_fsetid plan seat kill in
@@ -410,8 +481,10 @@ module _
         drops_if plan kill _ (
         in_resolves D dropped Q number _ (λ row.
         in_opens_row D dropped Q row (inode_flags plan.config session.agreed (cleaned plan.config flags))
-        (λ fd. handled session number fd (λ handle. Shuts false (next handle))) may (λ fd.
-        handles session number fd _ (λ handle. w.shuts false _ (so handle))))))
+        (λ fd. cleared_if (includes flags o_trunc) plan.capability fd
+        (handled session number fd (λ handle. Shuts false (next handle)))) may.0 (λ fd.
+        clears_if (includes flags o_trunc) plan.capability fd _ may.1 (
+        handles session number fd _ (λ handle. w.shuts false _ (so handle)))))))
 
     pub opens_shared : (plan : Plan) (session : BegunSession) (agreed : Option Negotiated) (next : RequestTree) →
         OfRoot D agreed → Q next → Q (root_open plan session agreed next)
@@ -422,77 +495,19 @@ module _
         inserts_root session (File fd) told agreed next may so)))
 
     -- as whoever asks, whose ids may be forbidden
-    pub makes : (asker : Option Credentials) (making : Call) (next : ActReply → RequestTree) →
-        is_making (Calls making) ≡ true → ((creds : Credentials) → asker ≡ Some creds → M creds) →
+    pub makes : (asker : Option Credentials) (umask : Option ℕ) (making : Call) (next : ActReply → RequestTree) →
+        is_making (Calls making) ≡ true → ((creds : Credentials) → asker ≡ Some creds → M creds umask) →
         ((told : ActReply) → R told (next told)) →
-        Q (as_asker seat asker (Asks (Calls making) (λ told. Bares (next told))))
-    makes None making next is may so = refuses_so eperm
-    makes (Some creds) making next is may so = w.makes_as creds making next is (may creds refl) so
+        Q (as_asker seat asker (under_umask umask (Asks (Calls making) (λ told. Bares (next told)))))
+    makes None umask making next is may so = refuses_so eperm
+    makes (Some creds) umask making next is may so = w.makes_as creds umask making next is (may creds refl) so
 
-    -- a refusal behind one more call, which the host may refuse
-    pub undoes : (undoing : Call) (errno : Errno) → is_of_seat (Calls undoing) ≡ false →
-        is_making (Calls undoing) ≡ false → OfDeed D false (Calls undoing) →
-        Q (undone undoing (answer.Refused errno))
-    undoes undoing errno own none may =
-        w.asks (Calls undoing) (on tried_in (λ done. Gives (answer.Refused errno))) own none may
-        (if_tried R (Gives (answer.Refused errno)) w.refuses (λ told. w.had _ _ (refuses_so errno)))
-
-    pub sets_label : (session : BegunSession) (fd : Fd) (undoing : Call) (label : SecContext)
-        (next : RequestTree) → is_of_seat (Calls undoing) ≡ false → is_making (Calls undoing) ≡ false →
-        OfDeed D false (Calls undoing) → Q next → Q (label_set session fd undoing label next)
-    unfolding label_set
-    sets_label session fd undoing label next own none may so =
-        checks (is_blocked session.agreed label.name) _ _ (undoes undoing eopnotsupp own none may)
-        (w.asks (Calls (call.SetXattr fd false label.name label.value 0))
-        (on refused_in (or_refused (undone undoing) next)) refl refl refl
-        (if_refused R (or_refused (undone undoing) next) w.refuses (λ told. w.had _ _ so)
-        (λ errno. w.had _ _ (undoes undoing errno own none may))
-        (λ errno. w.had _ _ (undoes undoing errno own none may))
-        (w.ran_out (Host host.NoMemory) (Calls undoing) refl own none may)
-        (w.ran_out NoCopy (Calls undoing) refl own none may)))
-
-    pub labels : (session : BegunSession) (fd : Fd) (undoing : Call) (label : Option SecContext)
-        (next : RequestTree) → is_of_seat (Calls undoing) ≡ false → is_making (Calls undoing) ≡ false →
-        OfDeed D false (Calls undoing) → Q next → Q (labelled session fd undoing label next)
-    labels session fd undoing None next own none may so = so
-    labels session fd undoing (Some label) next own none may so =
-        sets_label session fd undoing label next own none may so
-
-    pub news : (plan : Plan) (session : BegunSession) (asked : FileAsked) (dir fd : Fd)
-        (next : NamedHandle → RequestTree) → ((named : NamedHandle) → Q (next named)) →
-        Q (new_file plan session asked dir fd next)
-    unfolding new_file
-    news plan session asked dir fd next so =
-        stats fd _ (λ made.
-        labels session fd (call.Unlink dir asked.name) asked.ext.secctx _ refl refl refl (
-        looks_up plan session asked.parent asked.name _ (λ looked.
-        is_same made.ids looked.ids _ (
-        handles session looked.entry.inode fd _ (λ handle. so (named_handle looked.entry handle))))))
-
-    pub olds : (plan : Plan) (session : BegunSession) (asked : FileAsked) (next : NamedHandle → RequestTree) →
-        OfOpening D (drops_fsetid plan seat asked.kill) → ((named : NamedHandle) → Q (next named)) →
-        Q (old_file plan seat session asked next)
-    unfolding old_file
-    olds plan session asked next may so =
-        looks_up plan session asked.parent asked.name _ (λ looked.
-        opens_num plan session looked.entry.inode asked.kill asked.flags _ may
-        (λ handle. so (named_handle looked.entry handle)))
-
-    pub makes_file : (plan : Plan) (session : BegunSession) (asked : FileAsked) (dir : Fd)
-        (next : NamedHandle → RequestTree) →
-        ((creds : Credentials) → asker_of plan session asked.who asked.ext.sup_gid ≡ Some creds → M creds) →
-        OfOpening D (drops_fsetid plan seat asked.kill) → ((named : NamedHandle) → Q (next named)) →
-        Q (make_file plan seat session asked dir next)
-    unfolding make_file
-    makes_file plan session asked dir next may opening so =
-        makes (asker_of plan session asked.who asked.ext.sup_gid)
-        (call.OpenAt dir asked.name (making_flags asked.flags) asked.mode)
-        (on (made_in (takes_old asked.flags)) (λ made. made_file plan seat session asked dir made next))
-        (creates_file asked.flags) may
-        (if_made R (λ made. made_file plan seat session asked dir made next) (takes_old asked.flags) w.refuses
-        (λ fd. w.had _ _ (news plan session asked dir fd next so))
-        (λ errno. w.had _ _ (olds plan session asked next opening so))
-        (λ errno. w.had _ _ (olds plan session asked next opening so)))
+    -- a context, by the host's name
+    pub hosts_label : (plan : Plan) (agreed : Negotiated) (brought : Option SecContext)
+        (next : Option Label → RequestTree) → OfLabel Q brought → ((label : Option Label) → Q (next label)) →
+        Q (host_label plan agreed brought next)
+    hosts_label plan agreed None next made so = so None
+    hosts_label plan agreed (Some label) next made so = names_host made plan agreed label.name _ (λ name. so _)
 
     -- the requests
     pub inits : (plan : Plan) (capable : FsOptions) → OfRoot D (Some (agreed_with plan.config capable)) →
@@ -500,7 +515,12 @@ module _
     inits plan capable may =
         clears _ (λ era.
         opens_shared plan (session_of era nothing_agreed) (Some (agreed_with plan.config capable)) _ may (
-        w.gives (answer.Inited (init_options plan.config capable)) (refl, λ out. out)))
+        w.gives (init_answer plan.config capable) (is_plain (is_short_of plan.config capable))))
+      where
+        is_plain : (short : Bool) → IsPlain
+            (if short then answer.Refused eproto else answer.Inited (init_options plan.config capable))
+        is_plain true = (refl, λ out. out)
+        is_plain false = (refl, λ out. out)
 
     pub destroys : Q destroy
     destroys = clears _ (λ era. w.gives answer.NoReply (refl, λ out. out))
@@ -518,7 +538,7 @@ module _
     pub forgets_all : (list : List (ℕ × ℕ)) → Q (begin (batch_forget list))
     forgets_all list = begins _ (λ session. forgets list _ (w.gives answer.NoReply (refl, λ out. out)))
 
-    pub opens : (plan : Plan) (inode : ℕ) (kill : Bool) (flags : ℕ) → OfOpening D (drops_fsetid plan seat kill) →
+    pub opens : (plan : Plan) (inode : ℕ) (kill : Bool) (flags : ℕ) → OfEmptying D (drops_fsetid plan seat kill) →
         Q (begin (open_file plan seat inode kill flags))
     opens plan inode kill flags may =
         begins _ (λ session.
@@ -534,20 +554,6 @@ module _
         places offset _ (
         pins handle inode _ (λ fd.
         reads_at fd offset size _ (λ bytes. w.gives (answer.Read bytes) (refl, λ out. out)))))
-
-    pub creates : (plan : Plan) (asked : FileAsked) → OfAsker M plan asked.who asked.ext.sup_gid →
-        OfOpening D (drops_fsetid plan seat asked.kill) → Q (begin (create plan seat asked))
-    creates plan asked may opening =
-        begins _ (λ session.
-        names asked.name _ (
-        resolves asked.parent _ (λ directory.
-        files directory.form _ (λ dir.
-        makes_file plan session asked dir _ (may session) opening answers))))
-      where
-        answers : (named : NamedHandle) →
-            Q (Gives (answer.Created named.entry named.handle (create_options plan.config)))
-        answers named =
-            w.gives (answer.Created named.entry named.handle (create_options plan.config)) (refl, λ out. out)
 
     pub unserves : Q (begin unserved)
     unserves = begins _ (λ session. refuses_so (errno_of 38))

@@ -1,6 +1,6 @@
 -- Believed. Who asks, by the host's ids, and a call that is made as whoever asks. After virtiofsd's
--- `unix_credentials_guard`, credentials(7), capabilities(7).
-use Rattle.std.specs.Prelude.{ℕ, Bool, true, false, not, [], ◌∷◌, Option, Some, None, option_map}
+-- `unix_credentials_guard` and `ScopedUmask`, credentials(7), capabilities(7), umask(2).
+use Rattle.std.specs.Prelude.{ℕ, Bool, true, false, not, [], ◌∷◌, Option, Some, None, option_map, if◌then◌else◌}
 use Rattle.pt_host.specs.Errno.{eperm}
 use Rattle.pt_host.specs.declared.op.KeptHostOp.TheVariants as call
 use Rattle.pt_host.specs.declared.seat.HostSeat.{HostSeat}
@@ -50,6 +50,16 @@ euid_set (Some uid) next = open_scope (call.SetEuid uid) hold.EffectiveUid next
 abbrev pub cap_raised : Bool → RequestTree → RequestTree
 cap_raised false next = next
 cap_raised true next = try_call (call.RaiseCap override_cap) next
+
+-- Whether the umask of who asks counts is agreed on with lists of access control: the guest's kernel leaves it to the
+-- host then, which minds a directory's own defaults first. A symbolic link has none.
+abbrev pub umask_of : BegunSession → Option ℕ → Option ℕ
+umask_of session umask = if session.agreed.posix_acl then umask else None
+
+-- under a umask, if one is to be set
+abbrev pub under_umask : Option ℕ → RequestTree → RequestTree
+under_umask None next = next
+under_umask (Some mask) next = open_scope (call.SetUmask mask) hold.Umask next
 
 -- the calls by which an identity is taken on
 abbrev pub taken_on : CredSteps → RequestTree → RequestTree

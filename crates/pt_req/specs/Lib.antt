@@ -8,5 +8,4 @@ pub mod Attributes
 pub mod Capability
 pub mod Parts
 pub mod Asker
-pub mod Creating
 pub mod Requests

@@ -1,9 +1,9 @@
 -- Believed. The bits of openings and sessions: which flags the host is given, and which options the guest is
 -- answered. After virtiofsd's `do_open`, `open_inode`, `init`, and open(2).
-use Rattle.std.specs.Prelude.{ℕ, ◌+◌, ◌-◌, ◌^◌, Bool, true, false, ◌&&◌, ◌==◌, bit_and, bit_or, if◌then◌else◌}
+use Rattle.std.specs.Prelude.{ℕ, ◌+◌, ◌-◌, ◌^◌, Bool, true, false, ◌&&◌, ◌||◌, not, ◌==◌, bit_and, bit_or}
+use Rattle.std.specs.Prelude.{if◌then◌else◌}
 use Rattle.pt_host.specs.Flags.{includes, o_creat, o_excl, o_directory}
 use Rattle.pt_host.specs.declared.flags.OpenFlags.{OpenFlags}
-use Rattle.pt_session.specs.Tables.{nothing_agreed}
 use Rattle.pt_session.specs.declared.form.Negotiated.{Negotiated}
 use Rattle.pt_iface.specs.declared.flags.FsOptions.{FsOptions}
 use Rattle.pt_iface.specs.declared.flags.OpenOptions.{OpenOptions}
@@ -111,6 +111,13 @@ writeback_cache = 4
 abbrev pub handle_killpriv_v2 : ℕ
 handle_killpriv_v2 = 8
 
+-- `POSIX_ACL`, `DONT_MASK` and `SETXATTR_EXT`, which access control lists take together
+abbrev pub acl_bits : ℕ
+acl_bits = 112
+
+abbrev pub security_ctx : ℕ
+security_ctx = 128
+
 abbrev pub submounts : ℕ
 submounts = 256
 
@@ -124,25 +131,34 @@ direct_io_allow_mmap = 1024
 abbrev pub keeps_writes : Config → FsOptions → Bool
 keeps_writes config capable = config.writeback && includes capable.0 writeback_cache
 
--- What is agreed on with a guest that offers this: what is configured and offered; that it tells the group of who asks
--- is offered alone.
+-- lists of access control or contexts of security are configured, and the guest does not offer what they take
+abbrev pub is_short_of : Config → FsOptions → Bool
+is_short_of config capable =
+    (config.posix_acl && not (includes capable.0 acl_bits))
+    || (config.security_label && not (includes capable.0 security_ctx))
+
+-- What is agreed on with a guest that offers this: what is configured and offered. That it tells the group of who asks
+-- is offered alone, and decided last of all, so not with a guest that is refused.
 abbrev pub agreed_with : Config → FsOptions → Negotiated
-agreed_with config capable = record nothing_agreed {
+agreed_with config capable = record {
   writeback = keeps_writes config capable;
   announce_submounts = config.announce_submounts && includes capable.0 submounts;
-  sup_group = includes capable.0 create_supp_group;
+  posix_acl = config.posix_acl && includes capable.0 acl_bits;
+  sup_group = includes capable.0 create_supp_group && not (is_short_of config capable);
 }
 
 abbrev pub bits_if : Bool → ℕ → ℕ
 bits_if true bits = bits
 bits_if false bits = 0
 
--- What it is answered: two of these need be configured alone, and two have to be offered too.
+-- What it is answered where it is not refused: what is configured, and was offered where that has to be.
 abbrev pub init_options : Config → FsOptions → FsOptions
 init_options config capable = record {
   0 =
       bits_if config.readdirplus readdirplus_bits
       + bits_if (keeps_writes config capable) writeback_cache
       + bits_if (config.killpriv_v2 && includes capable.0 handle_killpriv_v2) handle_killpriv_v2
+      + bits_if config.posix_acl acl_bits
+      + bits_if config.security_label security_ctx
       + bits_if config.allow_mmap direct_io_allow_mmap;
 }

@@ -2,7 +2,7 @@
 -- `do_open`, `open_root_node`.
 use Rattle.std.specs.Prelude.{ℕ, Bool, true, false, if◌then◌else◌, List, Option, Some, None}
 use Rattle.pt_host.specs.Errno.{ebadf, einval}
-use Rattle.pt_host.specs.Flags.{path_flags}
+use Rattle.pt_host.specs.Flags.{includes, o_trunc, path_flags}
 use Rattle.pt_host.specs.declared.ids.Fd.{Fd}
 use Rattle.pt_host.specs.declared.ids.ObjIds.{ObjIds}
 use Rattle.pt_host.specs.declared.seat.HostSeat.{HostSeat}
@@ -13,7 +13,7 @@ use Rattle.pt_session.specs.declared.form.RowForm.TheVariants.{File}
 use Rattle.pt_session.specs.declared.form.Negotiated.{Negotiated}
 use Rattle.pt_iface.specs.declared.answer.Answer.TheVariants as answer
 use Rattle.pt_frame.specs.Tree.{RequestTree, Gives, Bares, Brackets, Shuts}
-use Rattle.pt_req.specs.Capability.{drops_fsetid, without_fsetid}
+use Rattle.pt_req.specs.Capability.{cleared_if, drops_fsetid, without_fsetid}
 use Rattle.pt_req.specs.Options.{cleaned, inode_flags, without_nofollow}
 use Rattle.pt_req.specs.Steps.{Part, ◌>>=◌, ◌>>◌, resolve, open_root, open_at, reopen, stat, claim, take_fd, draw_node}
 use Rattle.pt_req.specs.Steps.{draw_handle, insert, insert_root, insert_handle}
@@ -94,13 +94,15 @@ handled session number fd next = do
   insert_handle session handle number fd
   next handle
 
--- a number is opened by a handle: where `kill` asks for it, set-id bits of what is emptied by that go
+-- A number is opened by a handle. Where `kill` asks for it, set-id bits of what is emptied by that go; capabilities of
+-- what is emptied go in any case.
 abbrev pub open_num : Plan → HostSeat → BegunSession → ℕ → Bool → ℕ → Part ℕ
 open_num plan seat session number kill flags next = do
   Brackets
   without_fsetid (drops_fsetid plan seat kill)
   fd ← open_inode plan session number (cleaned plan.config flags)
   Bares
+  cleared_if (includes flags o_trunc) plan.capability fd
   handle ← handled session number fd
   Shuts false
   next handle

@@ -1,29 +1,32 @@
 -- Believed. The requests, by their parts. After virtiofsd's passthrough file system: `init`, `open_root_node`,
--- `lookup`, `forget`, `open`, `opendir`, `release`, `read`, `create`.
-use Rattle.std.specs.Prelude.{ℕ, Bool, false, List, [], ◌∷◌, Some, None}
-use Rattle.pt_host.specs.Errno.{errno_of}
+-- `lookup`, `forget`, `open`, `opendir`, `release`, `read`.
+use Rattle.std.specs.Prelude.{ℕ, Bool, false, if◌then◌else◌, List, [], ◌∷◌, Some, None}
+use Rattle.pt_host.specs.Errno.{errno_of, eproto}
 use Rattle.pt_host.specs.Flags.{o_directory}
 use Rattle.pt_host.specs.declared.seat.HostSeat.{HostSeat}
+use Rattle.pt_iface.specs.declared.answer.Answer.{Answer}
 use Rattle.pt_iface.specs.declared.answer.Answer.TheVariants as answer
 use Rattle.pt_iface.specs.declared.flags.FsOptions.{FsOptions}
-use Rattle.pt_iface.specs.declared.request.Context.{Context}
-use Rattle.pt_iface.specs.declared.request.Extensions.{Extensions}
 use Rattle.pt_frame.specs.Tree.{RequestTree, Gives}
 use Rattle.pt_session.specs.Tables.{nothing_agreed}
-use Rattle.pt_req.specs.Options.{with_bits, agreed_with, init_options, open_options, create_options}
-use Rattle.pt_req.specs.Steps.{◌>>=◌, ◌>>◌, session_of, clear, resolve, read_at, pin_handle, forget_all}
-use Rattle.pt_req.specs.Steps.{release_handle}
-use Rattle.pt_req.specs.Parts.{named, placed, file_of, look_up, open_num, root_open}
-use Rattle.pt_req.specs.Creating.{FileAsked, make_file}
+use Rattle.pt_req.specs.Options.{with_bits, is_short_of, agreed_with, init_options, open_options}
+use Rattle.pt_req.specs.Steps.{◌>>=◌, ◌>>◌, session_of, clear, read_at, pin_handle, forget_all, release_handle}
+use Rattle.pt_req.specs.Parts.{named, placed, look_up, open_num, root_open}
 use Rattle.pt_req.specs.declared.begun.BegunSession.{BegunSession}
+use Rattle.pt_req.specs.declared.plan.Config.{Config}
 use Rattle.pt_req.specs.declared.plan.Plan.{Plan}
 
--- the session begins anew, and what was agreed on is said with its root
+-- a guest that does not offer what the configuration asks for is refused, `EPROTO`
+abbrev pub init_answer : Config → FsOptions → Answer
+init_answer config capable =
+    if is_short_of config capable then answer.Refused eproto else answer.Inited (init_options config capable)
+
+-- The session begins anew, and what was agreed on is said with its root, which a guest that is refused keeps too.
 abbrev pub init : Plan → FsOptions → RequestTree
 init plan capable = do
   era ← clear
   root_open plan (session_of era nothing_agreed) (Some (agreed_with plan.config capable))
-  Gives (answer.Inited (init_options plan.config capable))
+  Gives (init_answer plan.config capable)
 
 -- the session ends, and one without a root begins
 abbrev pub destroy : RequestTree
@@ -76,19 +79,6 @@ read inode handle size offset session = do
   bytes ← read_at fd offset size
   Gives (answer.Read bytes)
 
--- a file is made and opened
-abbrev pub create : Plan → HostSeat → FileAsked → BegunSession → RequestTree
-create plan seat asked session = do
-  named asked.name
-  directory ← resolve asked.parent
-  dir ← file_of directory.form
-  file ← make_file plan seat session asked dir
-  Gives (answer.Created file.entry file.handle (create_options plan.config))
-
 -- the function is not implemented, `ENOSYS`
 abbrev pub unserved : BegunSession → RequestTree
 unserved session = Gives (answer.Refused (errno_of 38))
-
-abbrev pub file_asked : Context → ℕ → List ℕ → ℕ → Bool → ℕ → Extensions → FileAsked
-file_asked who parent name mode kill flags ext =
-    record { who = who; parent = parent; name = name; mode = mode; kill = kill; flags = flags; ext = ext }

@@ -1,9 +1,9 @@
 -- Believed. One step of a request each: what is asked, and what is read of the reply by which the request goes on. Any
 -- other reply is answered as a refusal.
-use Rattle.std.specs.Prelude.{ℕ, Bool, false, ◌&&◌, if◌then◌else◌, List, Option, Some, None}
+use Rattle.std.specs.Prelude.{ℕ, Bool, true, false, ◌&&◌, ◌||◌, if◌then◌else◌, List, Option, Some, None}
 use Rattle.std.specs.Ordering.{int_eq}
 use Rattle.pt_host.specs.Call.{Call}
-use Rattle.pt_host.specs.Errno.{eexist}
+use Rattle.pt_host.specs.Errno.{eexist, enodata, eopnotsupp}
 use Rattle.pt_host.specs.declared.handle.FileHandle.{FileHandle}
 use Rattle.pt_host.specs.declared.ids.Fd.{Fd}
 use Rattle.pt_host.specs.declared.ids.ObjIds.{ObjIds}
@@ -152,6 +152,22 @@ or_refused refused next (Some last) = refused last
 abbrev pub set_xattr : Fd → Bool → List ℕ → List ℕ → ℕ → Part (Option Answer)
 set_xattr fd through name value flags next =
     Asks (Calls (call.SetXattr fd through name value flags)) (on refused_in next)
+
+-- it went, or was not there, or the host has no attributes at all
+abbrev pub is_gone : ActReply → Bool
+is_gone (Host (host.Ok told)) = true
+is_gone (Host (host.Refused errno)) = int_eq errno.0 enodata.0 || int_eq errno.0 eopnotsupp.0
+is_gone (Host (host.Fault errno)) = int_eq errno.0 enodata.0 || int_eq errno.0 eopnotsupp.0
+is_gone (Host host.NoMemory) = false
+is_gone (Event told) = false
+is_gone NoCopy = false
+
+abbrev pub gone_in : ActReply → Option (Unit {0})
+gone_in told = if is_gone told then Some tt else None
+
+-- an extended attribute of what a descriptor is open on goes, where it is there
+abbrev pub drop_xattr : Fd → Bool → List ℕ → RequestTree → RequestTree
+drop_xattr fd through name next = Asks (Calls (call.RemoveXattr fd through name)) (on gone_in (λ done. next))
 
 -- an object's number is given once more; or it has none, and is absent
 abbrev pub claimed_in : ActReply → Option (Option ℕ)

@@ -3,7 +3,7 @@ ghost use Rattle.pt_req.specs.Plan.{default_config};
 
 use pt_host::Bytes;
 use pt_iface::{Refusal, Timeout};
-use pt_maps::{IdMap, IdRules};
+use pt_maps::{IdMap, IdRules, XattrMap};
 use std::alloc::Global;
 
 /// How the guest may cache files and directories, by virtiofsd's names.
@@ -47,6 +47,14 @@ pub struct Config {
     pub clean_noatime: bool,
     /// Whether the guest may map a file that it reads and writes directly.
     pub allow_mmap: bool,
+    /// Whether access control lists are served, which the guest has to offer: its umask is then minded by the host.
+    pub posix_acl: bool,
+    /// Whether new objects are made with a security context, which the guest has to offer.
+    pub security_label: bool,
+    /// Whether the guest may use extended attributes.
+    pub xattr: bool,
+    /// How the names of extended attributes become each other.
+    pub xattrmap: Option<XattrMap>,
     /// How the guest's uids and the host's become each other.
     pub uid_map: IdRules,
     /// How the gids do.
@@ -55,8 +63,8 @@ pub struct Config {
 
 impl Config {
     /// The defaults: timeouts of five seconds, the host's root, no limit of descriptors, cached as the guest decides,
-    /// with attributes of whole directories, neither direct I/O nor `O_NOATIME` on the host, and ids as they are; every
-    /// other switch is off. Its one refusal is that memory ran out.
+    /// with attributes of whole directories, neither direct I/O nor `O_NOATIME` on the host, ids and names as they are;
+    /// every other switch is off. Its one refusal is that memory ran out.
     pub fn new(alloc: Global) -> Result<Config, Refusal>
         ensures ok { IfOk result (λ config. config ≡ default_config) }
         ensures err { OnErr result (result ≡ Err Refusal.Memory) }
@@ -79,6 +87,10 @@ impl Config {
             killpriv_v2: false,
             clean_noatime: true,
             allow_mmap: false,
+            posix_acl: false,
+            security_label: false,
+            xattr: false,
+            xattrmap: None,
             uid_map: IdRules::new(alloc),
             gid_map: IdRules::new(alloc),
         })
@@ -91,4 +103,7 @@ pub struct Plan {
     pub config: Config,
     pub uid_map: IdMap,
     pub gid_map: IdMap,
+    /// The host's name of the attribute that holds a file's capabilities, where rules make it another one: such an
+    /// attribute the host does not clear by itself.
+    pub capability: Option<Bytes>,
 }

@@ -10,7 +10,7 @@ ghost use Rattle.pt_frame.specs.Tree.{RequestTree, on};
 ghost use Rattle.pt_frame.specs.declared.told.Heard.{Heard};
 ghost use Rattle.pt_req.specs.Steps.{began_in, cleared_in, resolved_in, fd_in, ok_in, tried_in, is_there, made_in};
 ghost use Rattle.pt_req.specs.Steps.{stat_in, refused_in, claimed_in, taken_in, drawn_in, numbered_in, inserted_in};
-ghost use Rattle.pt_req.specs.Steps.{pinned_in, done_in};
+ghost use Rattle.pt_req.specs.Steps.{pinned_in, done_in, is_gone, gone_in};
 ghost use Rattle.pt_req.specs.declared.begun.BegunSession.{BegunSession};
 ghost use Rattle.pt_req.specs.declared.replies.Made.{Made};
 
@@ -200,6 +200,30 @@ pub fn done_in<'a>(reply: &'a ActReply) -> Asked<'a, ()>
         ActReply::Event(EventReply::Done { .. }) => Ok(()),
         _ => Err(Stop::Refuses(reply)),
     }
+}
+
+/// Whether an attribute went, or was not there, or the host has none at all.
+fn is_gone(reply: &ActReply) -> bool
+    ensures { result ≡ is_gone reply.now }
+{
+    match reply {
+        ActReply::Host(HostReply::Ok(_)) => true,
+        ActReply::Host(HostReply::Refused(errno) | HostReply::Fault(errno)) => {
+            errno.0 == Errno::ENODATA.0 || errno.0 == Errno::EOPNOTSUPP.0
+        }
+        _ => false,
+    }
+}
+
+#[tactic(auto, using(pt_frame::proofs::Reading::judged, pt_frame::proofs::Reading::judged_refused))]
+pub fn gone_in<'a>(reply: &'a ActReply) -> Asked<'a, ()>
+    ensures { (told : List Heard) (at : ℕ) (next : RequestTree) →
+        Reads told at at result (on gone_in (λ done. next) reply.now) (λ done. next) }
+{
+    if is_gone(reply) {
+        return Ok(());
+    }
+    Err(Stop::Refuses(reply))
 }
 
 /// Whether it was answered that the name is there.

@@ -10,15 +10,15 @@ ghost use Rattle.pt_iface.specs.declared.answer.Answer.{Answer};
 ghost use Rattle.pt_frame.specs.Machine.Walk.{HasBytes, Reads, bytes_in};
 ghost use Rattle.pt_frame.specs.Tree.{RequestTree};
 ghost use Rattle.pt_req.specs.Steps.{begin, clear, resolve, open_root, open_at, reopen, open_scope, try_call};
-ghost use Rattle.pt_req.specs.Steps.{make_at, stat, read_at, set_xattr, claim, take_fd, draw_node, draw_handle};
+ghost use Rattle.pt_req.specs.Steps.{make_at, stat, read_at, set_xattr, drop_xattr, claim, take_fd, draw_node, draw_handle};
 ghost use Rattle.pt_req.specs.Steps.{insert, insert_root, insert_handle, pin_handle, forget_all, release_handle};
 ghost use Rattle.pt_req.specs.declared.begun.BegunSession.{BegunSession};
 ghost use Rattle.pt_req.specs.declared.replies.Made.{Made};
 
 use crate::begun::BegunSession;
 use crate::replies::{
-    Made, began_in, claimed_in, cleared_in, done_in, drawn_in, fd_in, inserted_in, made_in,
-    numbered_in, ok_in, pinned_in, refused_in, resolved_in, stat_in, taken_in, tried_in,
+    Made, began_in, claimed_in, cleared_in, done_in, drawn_in, fd_in, gone_in, inserted_in,
+    made_in, numbered_in, ok_in, pinned_in, refused_in, resolved_in, stat_in, taken_in, tried_in,
 };
 use pt_frame::{Act, ActReply, Asked, Heard, Hold, Stop, ask, bares, open};
 use pt_host::{Bytes, Fd, FileHandle, HostOp, HostReply, HostValue, ObjIds, OpenFlags, Stat};
@@ -155,6 +155,29 @@ pub fn set_xattr<'a>(
     });
     let reply = ask(told, at, act)?;
     refused_in(reply)
+}
+
+/// An extended attribute of what a descriptor is open on goes, where it is there.
+pub fn drop_xattr<'a>(
+    told: &'a [Heard],
+    at: &mut usize,
+    fd: Fd,
+    through: bool,
+    name: &'a Bytes,
+) -> Asked<'a, ()>
+    ensures { (next : RequestTree) →
+        Reads told.now at.old at.new result (drop_xattr fd through name.now next) (λ done. next) }
+{
+    let reply = ask(
+        told,
+        at,
+        Act::Host(HostOp::RemoveXattr {
+            fd,
+            through,
+            name: name.as_slice(),
+        }),
+    )?;
+    gone_in(reply)
 }
 
 /// A file is made, and the scopes that are open for that end, whatever is told.

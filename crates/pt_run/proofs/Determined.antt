@@ -24,9 +24,10 @@ use Rattle.pt_iface.specs.declared.answer.Answer.{Answer}
 use Rattle.pt_law.specs.World.{TablesRun}
 use Rattle.pt_law.proofs.Hosts.{hosts_tables}
 use Rattle.pt_law.proofs.Laws.{agree_law}
+use Rattle.pt_req.specs.Plan.{moved_capability}
 use Rattle.pt_req.specs.declared.plan.Config.{Config}
 use Rattle.pt_req.specs.declared.plan.Plan.{Plan}
-use Rattle.pt_fs.specs.Determined.{FoundMemory, EndsOrLoses, RanInOrder, AreOneRun}
+use Rattle.pt_fs.specs.Determined.{FoundMemory, NoneIsCut, EndsOrLoses, RanInOrder, AreOneRun}
 use Rattle.pt_fs.specs.FileSystem.{FileSystem, opens_root, IsMadeBy}
 use Rattle.pt_fs.specs.Keeps.{turns_of}
 use Rattle.pt_fs.specs.declared.job.Job.{Job}
@@ -143,11 +144,13 @@ opened_one settings before fs other after after' h k =
     h.uid_map ∙ ap (λ (c : Config). c.uid_map) config ∙ sym k.uid_map in
     let gids : fs.plan.gid_map ≡ other.plan.gid_map =
     h.gid_map ∙ ap (λ (c : Config). c.gid_map) config ∙ sym k.gid_map in
+    let capability : fs.plan.capability ≡ other.plan.capability =
+    h.capability ∙ ap (λ (c : Config). moved_capability c.xattrmap) config ∙ sym k.capability in
     let tables : fs.tables ≡ other.tables =
     h.tables ∙ ap (λ (c : Config). empty_tables c.guest_fd_limit) config ∙ sym k.tables in
     record {
       made = λ i. record {
-        plan = record { config = config i; uid_map = uids i; gid_map = gids i };
+        plan = record { config = config i; uid_map = uids i; gid_map = gids i; capability = capability i };
         tables = tables i;
         root = root i;
       };
@@ -189,12 +192,13 @@ RanAs fs jobs schedule opened trace answers lost host seats tables =
 ran_in_order : (settings : Settings) (start : State) (jobs : List Job) (schedule : List ℕ)
     (trace : List TraceStep) (answers : List Answer) (tables : Tables) (host : State) (lost : Option LostJob) →
     (run : IsRunFrom settings start jobs schedule trace answers tables host lost) → FoundMemory trace answers →
-    RanAs run.fs jobs schedule run.opened_host trace answers lost host run.seats tables
-ran_in_order settings start jobs schedule trace answers tables host lost run found = record {
+    NoneIsCut jobs answers → RanAs run.fs jobs schedule run.opened_host trace answers lost host run.seats tables
+ran_in_order settings start jobs schedule trace answers tables host lost run found uncut = record {
   steps = run.run.steps;
   ends = ends_or_loses run.fs.plan jobs schedule run.opened_host run.fs.tables trace answers
       lost run.ends;
   memory = found;
+  uncut = uncut;
 }
 
 end_agrees : (settings : Settings) (start : State) (jobs : List Job) (schedule : List ℕ)
@@ -212,14 +216,15 @@ runs_one : (settings : Settings) (start : State) (jobs : List Job) (schedule : L
     (lost lost' : Option LostJob) →
     (run : IsRunFrom settings start jobs schedule trace answers tables host lost)
     (run' : IsRunFrom settings start jobs schedule trace' answers' tables' host' lost') →
-    FoundMemory trace answers → FoundMemory trace' answers' →
+    FoundMemory trace answers → FoundMemory trace' answers' → NoneIsCut jobs answers → NoneIsCut jobs answers' →
     AreOneRun trace trace' answers answers' (loss_of lost) (loss_of lost') host host' run.seats run'.seats tables
     tables'
 runs_one settings start jobs schedule trace trace' answers answers' tables tables' host host' lost lost' run run'
-    found found' =
+    found found' uncut uncut' =
     let same = opened_one settings start run.fs run'.fs run.opened_host run'.opened_host run.opened run'.opened in
-    let here = ran_in_order settings start jobs schedule trace answers tables host lost run found in
-    let there = ran_in_order settings start jobs schedule trace' answers' tables' host' lost' run' found' in
+    let here = ran_in_order settings start jobs schedule trace answers tables host lost run found uncut in
+    let there = ran_in_order settings start jobs schedule trace' answers' tables' host' lost' run' found'
+    uncut' in
     let opened : RanAs run'.fs jobs schedule run.opened_host trace' answers' lost' host' run'.seats tables' =
     subst (λ (state : State). RanAs run'.fs jobs schedule state trace' answers' lost' host' run'.seats tables')
     (sym same.hosts) there in
@@ -262,7 +267,8 @@ determined bytes report other ran again full full' =
     IsRunFrom b.settings again.start b.jobs b.order again.trace again.answers again.tables again.host again.lost)
     begun again.run) in
     let one = runs_one ran.begun.settings ran.start ran.begun.jobs ran.begun.order ran.trace again.trace ran.answers
-    again.answers ran.tables again.tables ran.host again.host ran.lost again.lost ran.run run full full' in
+    again.answers ran.tables again.tables ran.host again.host ran.lost again.lost ran.run run full.0 full'.0 full.1
+    (subst (λ (b : Begun). NoneIsCut b.jobs again.answers) begun full'.1) in
     let agree = end_agrees ran.begun.settings ran.start ran.begun.jobs ran.begun.order ran.trace ran.answers
     ran.tables ran.host ran.lost ran.run in
     let live : AreLive ran.tables again.lives again.handles =

@@ -24,8 +24,10 @@ use Rattle.pt_session.specs.Tables.{empty_tables}
 use Rattle.pt_iface.specs.declared.answer.Refusal.{Refusal}
 use Rattle.pt_iface.specs.declared.answer.Refusal.TheVariants as refusal
 use Rattle.pt_req.specs.declared.plan.Config.{Config}
-use Rattle.pt_fs.specs.FileSystem.{FileSystem, AreMapped, IsMadeBy, IsPlanned, IsUnmapped, opens_root, only_path}
-use Rattle.pt_run.specs.Configured.{IsConfigured}
+use Rattle.pt_req.specs.Plan.{moved_capability}
+use Rattle.pt_fs.specs.FileSystem.{FileSystem, AreMapped, IsMadeBy, IsPlanned, IsUnmapped, LeavesNone, LeavesOne}
+use Rattle.pt_fs.specs.FileSystem.{opens_root, only_path}
+use Rattle.pt_run.specs.Configured.{IsConfigured, if_some}
 use Rattle.pt_run.specs.Run.{IsRootAsked, IsFsOpened, IsMapRefused, IsRefused, IsNotOpened, IsNoReport}
 use Rattle.pt_script.specs.Jobs.{start_seat}
 use Rattle.pt_script.specs.Parse.{IsScriptOf}
@@ -41,6 +43,10 @@ uids_set settings config h = ap (λ (c : Config). c.uid_map) h
 
 gids_set : (settings : Settings) (config : Config) → IsConfigured settings config → config.gid_map ≡ settings.gid_map
 gids_set settings config h = ap (λ (c : Config). c.gid_map) h
+
+names_set : (settings : Settings) (config : Config) → IsConfigured settings config →
+    config.xattrmap ≡ if_some settings.xattrmap
+names_set settings config h = ap (λ (c : Config). c.xattrmap) h
 
 -- what the call that makes a file system was answered
 abbrev Asked : State → HostSeat → Result FileSystem Refusal → State → HostSeat → Type 0
@@ -74,6 +80,7 @@ made_opened settings config before was fs after seat h starts same planned table
   plan = subst (IsConfigured settings) (sym planned.config) h;
   uid_map = planned.uids ∙ ap (λ (c : Config). c.uid_map) (sym planned.config);
   gid_map = planned.gids ∙ ap (λ (c : Config). c.gid_map) (sym planned.config);
+  capability = planned.capability ∙ ap (λ (c : Config). moved_capability c.xattrmap) (sym planned.config);
   mapped = subst AreMapped (sym planned.config) asked.0;
   tables = tables ∙ ap (λ (c : Config). empty_tables c.guest_fd_limit) (sym planned.config);
 }
@@ -84,13 +91,18 @@ set_refused : (settings : Settings) (config : Config) (errno : Errno) → IsConf
     IsUnmapped config (Err (refusal.Errno errno)) → IsMapRefused settings errno
 set_refused settings config errno h (inl uids) = record {
   invalid = uids.0;
-  error = uids.1;
-  refused = inl (subst (λ (rules : List IdRule). IsFirstRefusal rules uids.1) (uids_set settings config h) uids.2);
+  refused = inl (uids.1, subst (λ (rules : List IdRule). IsFirstRefusal rules uids.1) (uids_set settings config h) uids.2);
 }
-set_refused settings config errno h (inr gids) = record {
+set_refused settings config errno h (inr (inl gids)) = record {
   invalid = gids.0;
-  error = gids.1;
-  refused = inr (subst (λ (rules : List IdRule). IsFirstRefusal rules gids.1) (gids_set settings config h) gids.2);
+  refused = inr (inl (
+    gids.1,
+    subst (λ (rules : List IdRule). IsFirstRefusal rules gids.1) (gids_set settings config h) gids.2,
+  ));
+}
+set_refused settings config errno h (inr (inr names)) = record {
+  invalid = names.0;
+  refused = inr (inr (subst LeavesOne (names_set settings config h) names.1));
 }
 
 -- with an error it was refused by a call, or for a rule that is set
@@ -101,6 +113,7 @@ pub refused_opened : (settings : Settings) (config : Config) (before : State) (w
 refused_opened settings config before was errno after seat h starts same (inl asked) = inr (record {
   uids = subst AreAccepted (uids_set settings config h) asked.0.uids;
   gids = subst AreAccepted (gids_set settings config h) asked.0.gids;
+  names = subst LeavesNone (names_set settings config h) asked.0.names;
   after = after;
   fs = Err (refusal.Errno errno);
   call = is_asked settings before was (Err (refusal.Errno errno)) after seat starts same asked.1;
@@ -119,7 +132,8 @@ told_no_loss told errno made = made
 
 unmapped_no_loss : (config : Config) (errno : Errno) → IsUnmapped config (Err (refusal.Lost errno)) → ⊥
 unmapped_no_loss config errno (inl uids) = uids
-unmapped_no_loss config errno (inr gids) = gids
+unmapped_no_loss config errno (inr (inl gids)) = gids
+unmapped_no_loss config errno (inr (inr names)) = names
 
 pub never_lost : (config : Config) (before : State) (was : HostSeat) (errno : Errno) (after : State)
     (seat : HostSeat) → Made config before was (Err (refusal.Lost errno)) after seat → ⊥

@@ -5,7 +5,7 @@ use Rattle.pt_tree.specs.Listing.{listing_of}
 use Rattle.pt_session.specs.Tables.{Tables}
 use Rattle.pt_iface.specs.declared.answer.Answer.{Answer}
 use Rattle.pt_req.specs.declared.plan.Plan.{Plan}
-use Rattle.pt_fs.specs.Determined.{FoundMemory}
+use Rattle.pt_fs.specs.Determined.{FoundMemory, NoneIsCut}
 use Rattle.pt_fs.specs.Ends.{LosesNone}
 use Rattle.pt_fs.specs.declared.job.Job.{Job}
 use Rattle.pt_fs.specs.declared.trace.TraceStep.{TraceStep}
@@ -63,19 +63,22 @@ alike bytes bytes' report ran again =
     }
 
 -- what is printed is what was run
-full : (bytes report : List ℕ) (ran : IsReportOf bytes report) → IsFullReport report → IsFull ran
-full bytes report ran printed =
+full : (bytes report : List ℕ) (ran : IsReportOf bytes report) → IsFullReport report →
+    NoneIsCut ran.begun.jobs ran.answers → IsFull ran
+full bytes report ran printed uncut =
     let same = lines_tell printed.trace ran.trace printed.answers ran.answers printed.lives ran.lives printed.handles
     ran.handles printed.tables.slots ran.tables.slots (listing_of printed.host) (listing_of ran.host)
-    (lost_lines printed.lost) (lost_lines ran.lost) (sym printed.text ∙ ran.text) in
-    subst (λ (answers : List Answer). FoundMemory ran.trace answers) same.answered
-    (subst (λ (trace : List TraceStep). FoundMemory trace printed.answers) same.traces printed.memory)
+    (lost_lines printed.lost) (lost_lines ran.lost) (sym printed.text ∙ ran.text) in (
+      subst (λ (answers : List Answer). FoundMemory ran.trace answers) same.answered
+          (subst (λ (trace : List TraceStep). FoundMemory trace printed.answers) same.traces printed.memory),
+      uncut,
+    )
 
 told_by : (bytes report : List ℕ) (ran : IsReportOf bytes report) → IsToldBy ran
 told_by bytes report ran = record {
   run = λ bytes' again. alike bytes bytes' report ran again;
-  only = λ printed other again printed'.
-      only bytes report ran (full bytes report ran printed) other again (full bytes other again printed');
+  only = λ printed uncut other again printed' uncut'.
+      only bytes report ran (full bytes report ran printed uncut) other again (full bytes other again printed' uncut');
 }
 
 pub told_from : (left : Option (List ℕ)) → TellsRun left

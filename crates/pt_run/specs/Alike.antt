@@ -4,7 +4,7 @@ use Rattle.pt_session.specs.Tables.{Tables}
 use Rattle.pt_rules.specs.State.{State}
 use Rattle.pt_tree.specs.Listing.{listing_of}
 use Rattle.pt_iface.specs.declared.answer.Answer.{Answer}
-use Rattle.pt_fs.specs.Determined.{FoundMemory}
+use Rattle.pt_fs.specs.Determined.{FoundMemory, NoneIsCut}
 use Rattle.pt_fs.specs.declared.trace.TraceStep.{TraceStep}
 use Rattle.pt_run.specs.declared.report.LostJob.{LostJob}
 use Rattle.pt_run.specs.Run.{IsReportOf, IsReportFrom, report_of}
@@ -46,8 +46,10 @@ pub record IsFullReport (report : List ℕ) : Type 0 where
 pub record IsToldBy {bytes report : List ℕ} (ran : IsReportOf bytes report) : Type 0 where
   -- each run with this report is this run, as far as is printed
   pub run : (bytes' : List ℕ) (again : IsReportOf bytes' report) → AreAlike ran again
-  -- where both say of no want of memory, the script has no other report
-  pub only : IsFullReport report → (other : List ℕ) → IsReportOf bytes other → IsFullReport other → other ≡ report
+  -- where both say of no want of memory, and in neither run a job was cut that takes memory of its own, the script has
+  -- no other report
+  pub only : IsFullReport report → NoneIsCut ran.begun.jobs ran.answers → (other : List ℕ)
+      (again : IsReportOf bytes other) → IsFullReport other → NoneIsCut again.begun.jobs again.answers → other ≡ report
 
 -- so it is with each run of what was read from here
 unfoldable pub TellsRun : Option (List ℕ) → Type 0

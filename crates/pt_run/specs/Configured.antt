@@ -1,10 +1,16 @@
 -- Believed. The configuration that a script runs with.
-use Rattle.std.specs.Prelude.{◌≡◌, unwrap_or}
+use Rattle.std.specs.Prelude.{◌≡◌, List, [], ◌∷◌, Option, Some, None, unwrap_or}
+use Rattle.pt_maps.specs.declared.xattr_rule.XattrRule.{XattrRule}
 use Rattle.pt_req.specs.declared.plan.Config.{Config}
 use Rattle.pt_req.specs.Plan.{default_config}
 use Rattle.pt_script.specs.declared.settings.Settings.{Settings}
 
--- what is set, in place of the defaults; by default there are no rules for ids
+-- these rules, if there are any
+abbrev pub if_some : List XattrRule → Option (List XattrRule)
+if_some [] = None
+if_some (rule ∷ rules) = Some (rule ∷ rules)
+
+-- what is set, in place of the defaults; by default there are no rules, for ids and for names
 abbrev pub configured : Settings → Config → Config
 configured settings default = record {
   entry_timeout = unwrap_or settings.entry_timeout default.entry_timeout;
@@ -19,6 +25,10 @@ configured settings default = record {
   killpriv_v2 = unwrap_or settings.switches.killpriv_v2 default.killpriv_v2;
   clean_noatime = unwrap_or settings.switches.clean_noatime default.clean_noatime;
   allow_mmap = unwrap_or settings.switches.allow_mmap default.allow_mmap;
+  posix_acl = unwrap_or settings.switches.posix_acl default.posix_acl;
+  security_label = unwrap_or settings.switches.security_label default.security_label;
+  xattr = unwrap_or settings.switches.xattr default.xattr;
+  xattrmap = if_some settings.xattrmap;
   uid_map = settings.uid_map;
   gid_map = settings.gid_map;
 }

@@ -1,11 +1,11 @@
 -- Believed. A script alone determines its report unless memory runs out.
 use Rattle.std.specs.Prelude.{◌≡◌, ℕ, List, Option}
-use Rattle.pt_fs.specs.Determined.{FoundMemory}
+use Rattle.pt_fs.specs.Determined.{FoundMemory, NoneIsCut}
 use Rattle.pt_run.specs.Run.{IsReportOf, IsReportFrom}
 
--- no reply and no answer of the reported run tells that memory ran out
+-- no reply and no answer of the reported run tells that memory ran out, and no job was cut that takes memory of its own
 abbrev pub IsFull : {bytes report : List ℕ} → IsReportOf bytes report → Type 0
-IsFull ran = FoundMemory ran.trace ran.answers
+IsFull ran = FoundMemory ran.trace ran.answers × NoneIsCut ran.begun.jobs ran.answers
 
 -- where that is so, each such report of the script is these bytes
 abbrev pub IsOnly : {bytes report : List ℕ} → IsReportOf bytes report → Type 0

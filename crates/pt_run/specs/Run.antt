@@ -16,8 +16,9 @@ use Rattle.pt_session.specs.Tables.{Tables, empty_tables}
 use Rattle.pt_iface.specs.declared.answer.Answer.{Answer}
 use Rattle.pt_iface.specs.declared.answer.Refusal.{Refusal}
 use Rattle.pt_iface.specs.declared.answer.Refusal.TheVariants as refusal
+use Rattle.pt_req.specs.Plan.{moved_capability}
 use Rattle.pt_req.specs.declared.plan.Plan.{Plan}
-use Rattle.pt_fs.specs.FileSystem.{FileSystem, AreMapped, opens_root, IsMadeBy}
+use Rattle.pt_fs.specs.FileSystem.{FileSystem, AreMapped, LeavesNone, LeavesOne, opens_root, IsMadeBy}
 use Rattle.pt_fs.specs.Ends.{EndsWhole, LosesSeat}
 use Rattle.pt_fs.specs.Run.{IsRun}
 use Rattle.pt_fs.specs.declared.job.Job.{Job}
@@ -29,7 +30,7 @@ use Rattle.pt_run.specs.Report.{step_lines, answer_lines, lost_lines}
 use Rattle.pt_run.specs.declared.report.LostJob.{LostJob}
 use Rattle.pt_run.specs.TableLines.{live_lines, handle_lines, slots_line, LivesAbove, HandlesAbove}
 use Rattle.pt_script.specs.Begins.{BeginsAs}
-use Rattle.pt_run.specs.Configured.{IsConfigured}
+use Rattle.pt_run.specs.Configured.{IsConfigured, if_some}
 use Rattle.pt_script.specs.declared.settings.Settings.{Settings}
 use Rattle.pt_run.specs.declared.status.Status.{Status}
 use Rattle.pt_run.specs.declared.status.Status.TheVariants as status
@@ -47,6 +48,7 @@ pub record IsFsOpened (settings : Settings) (before : State) (fs : FileSystem) (
   pub plan : IsConfigured settings fs.plan.config
   pub uid_map : fs.plan.uid_map ≡ fs.plan.config.uid_map
   pub gid_map : fs.plan.gid_map ≡ fs.plan.config.gid_map
+  pub capability : fs.plan.capability ≡ moved_capability fs.plan.config.xattrmap
   pub mapped : AreMapped fs.plan.config
   pub tables : fs.tables ≡ empty_tables fs.plan.config.guest_fd_limit
 
@@ -134,16 +136,18 @@ pub record IsReportOf (bytes report : List ℕ) : Type 0 where
 pub record IsRefused (settings : Settings) (before : State) (errno : Errno) : Type 0 where
   pub uids : AreAccepted settings.uid_map
   pub gids : AreAccepted settings.gid_map
+  pub names : LeavesNone (if_some settings.xattrmap)
   pub after : State
   pub fs : Result FileSystem Refusal
   pub call : IsRootAsked settings before fs after
   pub refused : fs ≡ Err (refusal.Errno errno)
 
--- a rule for ids that is set is refused, which is an invalid argument, and no call is made
+-- a rule for ids that is set is refused, or the rules for names leave one unmet, which is an invalid argument, and no
+-- call is made
 pub record IsMapRefused (settings : Settings) (errno : Errno) : Type 0 where
   pub invalid : errno ≡ einval
-  pub error : MapError
-  pub refused : IsFirstRefusal settings.uid_map error ⊎ IsFirstRefusal settings.gid_map error
+  pub refused : ((error : MapError) × IsFirstRefusal settings.uid_map error)
+      ⊎ ((error : MapError) × IsFirstRefusal settings.gid_map error) ⊎ LeavesOne (if_some settings.xattrmap)
 
 -- why none was made
 abbrev pub IsNotOpened : Settings → State → Status → Type 0

@@ -4,7 +4,7 @@ ghost use Rattle.pt_fs.specs.Jobs.{StartAll};
 ghost use Rattle.pt_fs.specs.declared.trace.TraceStep.{TraceStep};
 ghost use Rattle.pt_run.specs.Report.{step_lines};
 ghost use Rattle.pt_run.specs.TableLines.{live_lines, handle_lines, slots_line};
-ghost use Rattle.pt_run.specs.Configured.{configured};
+ghost use Rattle.pt_run.specs.Configured.{configured, if_some};
 ghost use Rattle.pt_run.specs.Run.{
   report_behind,
   status_for,
@@ -23,11 +23,19 @@ use crate::status::Status;
 use crate::table_lines::{push_handles, push_lives, push_slots};
 use pt_fs::{DriveIntoError, Job, Left, PassthroughFs, SteppedFs, drive_into};
 use pt_iface::Refusal;
+use pt_maps::XattrMap;
 use pt_req::Config;
 use pt_script::{ParseError, Script, Settings, parse, seat_of};
 use pt_text::push_text;
 use pt_tree::TreeHost;
 use std::alloc::{AllocError, Global};
+
+// These rules, if there are any.
+fn if_some(rules: XattrMap) -> Option<XattrMap>
+    ensures { result ≡ if_some rules }
+{
+    if rules.len() == 0 { None } else { Some(rules) }
+}
 
 // The configuration with what is set in place of the defaults.
 fn configured(settings: Settings, default: Config) -> Config
@@ -49,6 +57,10 @@ fn configured(settings: Settings, default: Config) -> Config
         killpriv_v2: switches.killpriv_v2.unwrap_or(default.killpriv_v2),
         clean_noatime: switches.clean_noatime.unwrap_or(default.clean_noatime),
         allow_mmap: switches.allow_mmap.unwrap_or(default.allow_mmap),
+        posix_acl: switches.posix_acl.unwrap_or(default.posix_acl),
+        security_label: switches.security_label.unwrap_or(default.security_label),
+        xattr: switches.xattr.unwrap_or(default.xattr),
+        xattrmap: if_some(settings.xattrmap),
         uid_map: settings.uid_map,
         gid_map: settings.gid_map,
     }

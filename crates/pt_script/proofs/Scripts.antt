@@ -282,6 +282,10 @@ one_switch switches switch.KillprivV2 on free = let none = none_len switches.kil
 one_switch switches switch.CleanNoatime on free =
     let none = none_len switches.clean_noatime free in omega (arith, none)
 one_switch switches switch.AllowMmap on free = let none = none_len switches.allow_mmap free in omega (arith, none)
+one_switch switches switch.PosixAcl on free = let none = none_len switches.posix_acl free in omega (arith, none)
+one_switch switches switch.SecurityLabel on free =
+    let none = none_len switches.security_label free in omega (arith, none)
+one_switch switches switch.Xattr on free = let none = none_len switches.xattr free in omega (arith, none)
 
 one_more : (settings : Settings) (setting : Setting) → may_set settings setting ≡ true →
     set_lines (with_setting settings setting) ≡ set_lines settings + 1
@@ -299,6 +303,7 @@ one_more settings (key.Switch one on) free =
     let more = one_switch settings.switches one on free in omega (arith, more)
 one_more settings (key.UidRule rule) free = omega (arith, length-append settings.uid_map (rule ∷ []))
 one_more settings (key.GidRule rule) free = omega (arith, length-append settings.gid_map (rule ∷ []))
+one_more settings (key.NameRule rule) free = omega (arith, length-append settings.xattrmap (rule ∷ []))
 
 empty_is : (xs : List TreeLine) → is_empty xs ≡ true → xs ≡ []
 empty_is [] e = refl

@@ -5,6 +5,7 @@ pub mod Edit
 pub mod Switches
 pub mod Settings
 pub mod IdRules
+pub mod NameRules
 pub mod SettingLine
 pub mod Line
 pub mod Jobs

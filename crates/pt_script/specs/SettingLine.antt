@@ -7,6 +7,7 @@ use Rattle.pt_req.specs.Named.{policy_named}
 use Rattle.pt_req.specs.declared.plan.CachePolicy.{CachePolicy}
 use Rattle.pt_words.specs.Fields.{◌>>=◌, first_as, number_in, small_in, bytes_in, switch_in, at_end}
 use Rattle.pt_script.specs.IdRules.{id_rule_in}
+use Rattle.pt_script.specs.NameRules.{name_rule_in}
 use Rattle.pt_script.specs.Switches.{switch_named}
 use Rattle.pt_script.specs.declared.settings.Identity.{Identity}
 use Rattle.pt_script.specs.declared.settings.Setting.{Setting}
@@ -67,7 +68,8 @@ setting_as key fields =
     else (if bytes_eq key (codes "seat") then option_map setting.Seat (identity_of fields)
     else (if bytes_eq key (codes "uidmap") then option_map setting.UidRule (id_rule_in fields)
     else (if bytes_eq key (codes "gidmap") then option_map setting.GidRule (id_rule_in fields)
-    else serving_setting_as key fields)))
+    else (if bytes_eq key (codes "xattrrule") then option_map setting.NameRule (name_rule_in fields)
+    else serving_setting_as key fields))))
 
 -- `KEY VALUE`
 abbrev pub setting_in : List (List ℕ) → Option Setting

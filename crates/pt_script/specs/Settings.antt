@@ -18,9 +18,10 @@ no_settings = record {
   switches = no_switches;
   uid_map = [];
   gid_map = [];
+  xattrmap = [];
 }
 
--- a rule for ids stands any number of times, each other key once at most
+-- a rule stands any number of times, each other key once at most
 abbrev pub may_set : Settings → Setting → Bool
 may_set settings (setting.GuestFdLimit limit) = is_none settings.guest_fd_limit
 may_set settings (setting.Seat who) = is_none settings.seat
@@ -31,6 +32,7 @@ may_set settings (setting.RootDir path) = is_none settings.root_dir
 may_set settings (setting.Switch switch on) = is_none (switched settings.switches switch)
 may_set settings (setting.UidRule rule) = true
 may_set settings (setting.GidRule rule) = true
+may_set settings (setting.NameRule rule) = true
 
 -- a rule comes behind those that stand
 abbrev pub with_setting : Settings → Setting → Settings
@@ -44,6 +46,7 @@ with_setting settings (setting.Switch switch on) =
     record settings { switches = with_switch settings.switches switch on }
 with_setting settings (setting.UidRule rule) = record settings { uid_map = settings.uid_map ++ rule ∷ [] }
 with_setting settings (setting.GidRule rule) = record settings { gid_map = settings.gid_map ++ rule ∷ [] }
+with_setting settings (setting.NameRule rule) = record settings { xattrmap = settings.xattrmap ++ rule ∷ [] }
 
 -- how many lines set what stands once at most
 abbrev pub single_lines : Settings → ℕ
@@ -54,7 +57,8 @@ single_lines settings =
 
 -- how many lines set these
 abbrev pub set_lines : Settings → ℕ
-set_lines settings = single_lines settings + (length settings.uid_map + length settings.gid_map)
+set_lines settings =
+    single_lines settings + (length settings.uid_map + length settings.gid_map + length settings.xattrmap)
 
 -- the superuser with all capabilities
 abbrev pub superuser : Identity

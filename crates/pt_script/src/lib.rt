@@ -7,6 +7,7 @@ mod id_rule;
 mod jobs;
 mod laws;
 mod line;
+mod name_rule;
 mod new_objects;
 mod scan;
 mod script;

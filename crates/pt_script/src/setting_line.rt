@@ -12,6 +12,7 @@ ghost use Rattle.pt_script.specs.SettingLine.{
 };
 
 use crate::id_rule::next_id_rule;
+use crate::name_rule::next_name_rule;
 use crate::settings::{Identity, Setting};
 use crate::switches::switch_named;
 use pt_host::Caps;
@@ -125,6 +126,8 @@ fn next_setting_as(alloc: Global, key: &[u8], words: &mut Parts<'_>) -> Result<S
         Ok(Setting::UidRule(next_id_rule(words)?))
     } else if is_word(key, b"gidmap") {
         Ok(Setting::GidRule(next_id_rule(words)?))
+    } else if is_word(key, b"xattrrule") {
+        Ok(Setting::NameRule(next_name_rule(alloc, words)?))
     } else {
         next_serving_setting_as(alloc, key, words)
     }

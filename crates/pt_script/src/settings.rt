@@ -4,7 +4,7 @@ ghost use Rattle.pt_script.specs.Settings.{no_settings, may_set, with_setting, s
 use crate::switches::{Switch, Switches, lines_of};
 use pt_host::{Bytes, Caps};
 use pt_iface::Timeout;
-use pt_maps::{IdRule, IdRules};
+use pt_maps::{IdRule, IdRules, XattrMap, XattrRule};
 use pt_req::CachePolicy;
 use std::alloc::{AllocError, Global};
 
@@ -37,9 +37,11 @@ pub enum Setting {
     UidRule(IdRule),
     /// One more rule for gids.
     GidRule(IdRule),
+    /// One more rule for the names of extended attributes.
+    NameRule(XattrRule),
 }
 
-/// The settings of a script: rules of ids in their order, and each other one once at most.
+/// The settings of a script: rules of ids and of names in their order, and each other one once at most.
 #[derive(Drop)]
 pub struct Settings {
     pub guest_fd_limit: Option<u64>,
@@ -51,6 +53,7 @@ pub struct Settings {
     pub switches: Switches,
     pub uid_map: IdRules,
     pub gid_map: IdRules,
+    pub xattrmap: XattrMap,
 }
 
 impl Settings {
@@ -68,6 +71,7 @@ impl Settings {
             switches: Switches::none(),
             uid_map: IdRules::new(alloc),
             gid_map: IdRules::new(alloc),
+            xattrmap: XattrMap::from_rules(alloc, Vec::new(alloc)),
         }
     }
 
@@ -83,7 +87,7 @@ impl Settings {
             Setting::CachePolicy(_) => self.cache_policy.is_none(),
             Setting::RootDir(_) => self.root_dir.is_none(),
             Setting::Switch(switch, _) => self.switches.get(*switch).is_none(),
-            Setting::UidRule(_) | Setting::GidRule(_) => true,
+            Setting::UidRule(_) | Setting::GidRule(_) | Setting::NameRule(_) => true,
         }
     }
 
@@ -102,6 +106,7 @@ impl Settings {
             Setting::Switch(switch, on) => self.switches.set(switch, on),
             Setting::UidRule(rule) => self.uid_map.push(rule)?,
             Setting::GidRule(rule) => self.gid_map.push(rule)?,
+            Setting::NameRule(rule) => self.xattrmap.push(rule)?,
         }
         Ok(())
     }
@@ -109,7 +114,7 @@ impl Settings {
     // How many lines set what stands once at most.
     fn single_lines(&self) -> u32
         ensures lines { result ≡ single_lines self.now }
-        ensures few { result ≤ 13 }
+        ensures few { result ≤ 16 }
     {
         lines_of(&self.guest_fd_limit)
             + lines_of(&self.seat)
@@ -125,7 +130,8 @@ impl Settings {
         requires { set_lines self.now < 2 ^ 32 }
         ensures { result ≡ set_lines self.now }
     {
-        let rules = self.uid_map.as_slice().len() + self.gid_map.as_slice().len();
+        let ids = self.uid_map.as_slice().len() + self.gid_map.as_slice().len();
+        let rules = ids + self.xattrmap.len();
         self.single_lines() + rules as u32
     }
 

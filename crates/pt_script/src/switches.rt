@@ -14,6 +14,9 @@ pub enum Switch {
     KillprivV2,
     CleanNoatime,
     AllowMmap,
+    PosixAcl,
+    SecurityLabel,
+    Xattr,
 }
 
 /// The switch of a key.
@@ -34,6 +37,12 @@ pub fn switch_named(key: &[u8]) -> Option<Switch>
         Some(Switch::CleanNoatime)
     } else if is_word(key, b"allow_mmap") {
         Some(Switch::AllowMmap)
+    } else if is_word(key, b"posix_acl") {
+        Some(Switch::PosixAcl)
+    } else if is_word(key, b"security_label") {
+        Some(Switch::SecurityLabel)
+    } else if is_word(key, b"xattr") {
+        Some(Switch::Xattr)
     } else {
         None
     }
@@ -49,6 +58,9 @@ pub struct Switches {
     pub killpriv_v2: Option<bool>,
     pub clean_noatime: Option<bool>,
     pub allow_mmap: Option<bool>,
+    pub posix_acl: Option<bool>,
+    pub security_label: Option<bool>,
+    pub xattr: Option<bool>,
 }
 
 impl Switches {
@@ -64,6 +76,9 @@ impl Switches {
             killpriv_v2: None,
             clean_noatime: None,
             allow_mmap: None,
+            posix_acl: None,
+            security_label: None,
+            xattr: None,
         }
     }
 
@@ -79,6 +94,9 @@ impl Switches {
             Switch::KillprivV2 => self.killpriv_v2,
             Switch::CleanNoatime => self.clean_noatime,
             Switch::AllowMmap => self.allow_mmap,
+            Switch::PosixAcl => self.posix_acl,
+            Switch::SecurityLabel => self.security_label,
+            Switch::Xattr => self.xattr,
         }
     }
 
@@ -94,13 +112,16 @@ impl Switches {
             Switch::KillprivV2 => self.killpriv_v2 = Some(on),
             Switch::CleanNoatime => self.clean_noatime = Some(on),
             Switch::AllowMmap => self.allow_mmap = Some(on),
+            Switch::PosixAcl => self.posix_acl = Some(on),
+            Switch::SecurityLabel => self.security_label = Some(on),
+            Switch::Xattr => self.xattr = Some(on),
         }
     }
 
     /// How many of them are set.
     pub fn lines(&self) -> u32
         ensures lines { result ≡ switch_lines self.now }
-        ensures few { result ≤ 7 }
+        ensures few { result ≤ 10 }
     {
         lines_of(&self.writeback)
             + lines_of(&self.announce_submounts)
@@ -109,6 +130,9 @@ impl Switches {
             + lines_of(&self.killpriv_v2)
             + lines_of(&self.clean_noatime)
             + lines_of(&self.allow_mmap)
+            + lines_of(&self.posix_acl)
+            + lines_of(&self.security_label)
+            + lines_of(&self.xattr)
     }
 }
 

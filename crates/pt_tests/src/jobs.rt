@@ -134,10 +134,9 @@ fn an_edit_that_is_cut_is_not_made(rt: HostRuntime) {
     assert!(rt; ends_so(&rt, rt.alloc(), job, &[&[Cut]], b" Cut"));
 }
 
-/// No line of a script asks for it yet.
 #[test]
-fn what_is_not_implemented_is_refused(rt: HostRuntime) {
-    let job = Played::start(rt.alloc(), Request::ListXattr { inode: 1, size: 0 });
+fn what_is_no_request_is_refused(rt: HostRuntime) {
+    let job = Played::start(rt.alloc(), Request::Other { opcode: 99 });
     let begins = [Acts(b" Begin", Told::Began)];
     assert!(rt; ends_so(&rt, rt.alloc(), job, &[&begins], b" Refused 38"));
 }

@@ -131,6 +131,7 @@ pub fn a_plan(alloc: Global) -> Option<Plan> {
             config,
             uid_map: IdMap::empty(alloc),
             gid_map: IdMap::empty(alloc),
+            capability: None,
         }),
         Err(_) => None,
     }
@@ -143,7 +144,17 @@ impl Played {
     }
 
     pub fn start(alloc: Global, request: Request) -> Option<Played> {
-        let plan = a_plan(alloc)?;
+        Played::start_where(alloc, request, None)
+    }
+
+    /// Where rules map the attribute of capabilities to this name, if to any.
+    pub fn start_where(
+        alloc: Global,
+        request: Request,
+        capability: Option<Bytes>,
+    ) -> Option<Played> {
+        let mut plan = a_plan(alloc)?;
+        plan.capability = capability;
         let who = Context { uid: 0, gid: 0 };
         match AnyJob::start(alloc, &plan, who, request) {
             Ok(job) => Some(Played::new(job, plan)),

@@ -6,5 +6,6 @@ pub mod Handles
 pub mod Contents
 pub mod Making
 pub mod Attributes
+pub mod Xattrs
 pub mod Parted
 pub mod Request

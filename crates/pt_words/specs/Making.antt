@@ -1,21 +1,31 @@
 -- Believed. The requests of a script that make an object, and what they bring beside.
-use Rattle.std.specs.Prelude.{ℕ, List, [], ◌∷◌, Option, Some, None, if◌then◌else◌, codes}
-use Rattle.std.specs.Str.{bytes_eq}
+use Rattle.std.specs.Prelude.{ℕ, List, Option, Some}
 use Rattle.pt_iface.specs.declared.request.Extensions.{Extensions}
 use Rattle.pt_iface.specs.declared.request.Request.{Request}
 use Rattle.pt_iface.specs.declared.request.Request.TheVariants.{Create, Mkdir, Mknod, Symlink}
+use Rattle.pt_iface.specs.declared.request.SecContext.{SecContext}
 use Rattle.pt_words.specs.Fields.{◌>>=◌, Field, number_in, small_in, bytes_in, switch_in, optional_in, at_end}
 
--- the group of the process, where one is told
-abbrev pub group_in : List (List ℕ) → Option (Field Extensions)
-group_in words = do
-  group ← optional_in small_in words
-  Some (record { value = record { secctx = None; sup_gid = group.value }; rest = group.rest })
+-- `NAME VALUE`: a security context is an extended attribute
+abbrev pub label_in : List (List ℕ) → Option (Field SecContext)
+label_in words = do
+  name ← bytes_in words
+  value ← bytes_in name.rest
+  Some (record { value = record { name = name.value; value = value.value }; rest = value.rest })
 
--- `- GROUP`: no security context can be brought yet
+-- `LABEL GROUP`: each may be told or not
 abbrev pub extensions_in : List (List ℕ) → Option (Field Extensions)
-extensions_in [] = None
-extensions_in (word ∷ rest) = if bytes_eq word (codes "-") then group_in rest else None
+extensions_in words = do
+  label ← optional_in label_in words
+  group ← optional_in small_in label.rest
+  Some (record { value = record { secctx = label.value; sup_gid = group.value }; rest = group.rest })
+
+-- `UMASK EXTENSIONS`, and no more
+abbrev pub brought_in : List (List ℕ) → Option (ℕ × Extensions)
+brought_in words = do
+  umask ← small_in words
+  ext ← extensions_in umask.rest
+  at_end ext.rest (umask.value, ext.value)
 
 -- `create PARENT NAME MODE KILL FLAGS UMASK EXTENSIONS`
 abbrev pub create_in : List (List ℕ) → Option Request
@@ -25,9 +35,8 @@ create_in words = do
   mode ← small_in name.rest
   kill ← switch_in mode.rest
   flags ← small_in kill.rest
-  umask ← small_in flags.rest
-  ext ← extensions_in umask.rest
-  at_end ext.rest (Create parent.value name.value mode.value kill.value flags.value umask.value ext.value)
+  brought ← brought_in flags.rest
+  Some (Create parent.value name.value mode.value kill.value flags.value brought.0 brought.1)
 
 -- `mkdir PARENT NAME MODE UMASK EXTENSIONS`
 abbrev pub mkdir_in : List (List ℕ) → Option Request
@@ -35,9 +44,8 @@ mkdir_in words = do
   parent ← number_in words
   name ← bytes_in parent.rest
   mode ← small_in name.rest
-  umask ← small_in mode.rest
-  ext ← extensions_in umask.rest
-  at_end ext.rest (Mkdir parent.value name.value mode.value umask.value ext.value)
+  brought ← brought_in mode.rest
+  Some (Mkdir parent.value name.value mode.value brought.0 brought.1)
 
 -- `mknod PARENT NAME MODE RDEV UMASK EXTENSIONS`
 abbrev pub mknod_in : List (List ℕ) → Option Request
@@ -46,9 +54,8 @@ mknod_in words = do
   name ← bytes_in parent.rest
   mode ← small_in name.rest
   rdev ← small_in mode.rest
-  umask ← small_in rdev.rest
-  ext ← extensions_in umask.rest
-  at_end ext.rest (Mknod parent.value name.value mode.value rdev.value umask.value ext.value)
+  brought ← brought_in rdev.rest
+  Some (Mknod parent.value name.value mode.value rdev.value brought.0 brought.1)
 
 -- `symlink TARGET PARENT NAME EXTENSIONS`
 abbrev pub symlink_in : List (List ℕ) → Option Request

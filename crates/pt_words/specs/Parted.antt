@@ -1,8 +1,6 @@
 -- Inner. Neighbouring fields that several requests have, read together.
 use Rattle.std.specs.Prelude.{ℕ, List, Option, Some}
-use Rattle.pt_words.specs.Fields.{◌>>=◌, Field, number_in, small_in, at_end}
-use Rattle.pt_iface.specs.declared.request.Extensions.{Extensions}
-use Rattle.pt_words.specs.Making.{extensions_in}
+use Rattle.pt_words.specs.Fields.{◌>>=◌, Field, number_in, small_in}
 
 -- a field and the one behind it
 abbrev pub two_in : {A B : Type 0} → (List (List ℕ) → Option (Field A)) → (List (List ℕ) → Option (Field B)) →
@@ -28,10 +26,3 @@ owner_in words = three_in small_in small_in small_in words
 -- `SECONDS NANOSECONDS`
 abbrev pub time_in : List (List ℕ) → Option (Field (ℕ × ℕ))
 time_in words = two_in number_in small_in words
-
--- `UMASK EXTENSIONS`, and no more
-abbrev pub brought_in : List (List ℕ) → Option (ℕ × Extensions)
-brought_in words = do
-  umask ← small_in words
-  ext ← extensions_in umask.rest
-  at_end ext.rest (umask.value, ext.value)

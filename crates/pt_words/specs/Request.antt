@@ -11,6 +11,7 @@ use Rattle.pt_words.specs.Contents.{fsyncdir_in, syncfs_in}
 use Rattle.pt_words.specs.Making.{create_in, mkdir_in, mknod_in, symlink_in}
 use Rattle.pt_words.specs.Naming.{link_in, unlink_in, rmdir_in, rename_in}
 use Rattle.pt_words.specs.Attributes.{readlink_in, statfs_in, getattr_in, setattr_in, access_in}
+use Rattle.pt_words.specs.Xattrs.{readdir_in, setxattr_in, getxattr_in, listxattr_in, removexattr_in}
 
 -- `other OPCODE`
 abbrev pub other_in : List (List ℕ) → Option Request
@@ -27,13 +28,23 @@ attribute_request_in word fields =
     else (if bytes_eq word (codes "setattr") then setattr_in fields
     else (if bytes_eq word (codes "access") then access_in fields else None))))
 
+-- a request for extended attributes, or for what a directory holds, or one of the above
+unfoldable pub xattr_request_in : List ℕ → List (List ℕ) → Option Request
+xattr_request_in word fields =
+    if bytes_eq word (codes "readdir") then readdir_in fields
+    else (if bytes_eq word (codes "setxattr") then setxattr_in fields
+    else (if bytes_eq word (codes "getxattr") then getxattr_in fields
+    else (if bytes_eq word (codes "listxattr") then listxattr_in fields
+    else (if bytes_eq word (codes "removexattr") then removexattr_in fields
+    else attribute_request_in word fields))))
+
 -- a request that gives a name or takes one away, or one of the above
 unfoldable pub naming_request_in : List ℕ → List (List ℕ) → Option Request
 naming_request_in word fields =
     if bytes_eq word (codes "link") then link_in fields
     else (if bytes_eq word (codes "unlink") then unlink_in fields
     else (if bytes_eq word (codes "rmdir") then rmdir_in fields
-    else (if bytes_eq word (codes "rename") then rename_in fields else attribute_request_in word fields)))
+    else (if bytes_eq word (codes "rename") then rename_in fields else xattr_request_in word fields)))
 
 -- a request that makes an object, or one of the above
 unfoldable pub making_request_in : List ℕ → List (List ℕ) → Option Request

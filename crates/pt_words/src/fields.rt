@@ -107,8 +107,8 @@ pub fn next_switch(words: &mut Parts<'_>) -> Result<bool, LineError>
     }
 }
 
-// Whether a field is told: `+` before it, or `-` in its place.
-fn next_sign(words: &mut Parts<'_>) -> Result<bool, LineError>
+/// Whether a field is told: `+` before it, or `-` in its place.
+pub fn next_sign(words: &mut Parts<'_>) -> Result<bool, LineError>
     ensures ok { IfOk result (λ told. sign_in words.old ≡ Some (record { value = told; rest = words.new })) }
     ensures bad { result ≡ Err LineError.Bad → sign_in words.old ≡ None }
     ensures no_memory { result ≡ Err LineError.Memory → ⊥ }

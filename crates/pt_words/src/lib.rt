@@ -10,6 +10,7 @@ mod naming;
 mod numbers;
 mod places;
 mod request;
+mod xattrs;
 
 pub use fields::{
     LineError, end, next_bytes, next_errno, next_number, next_pairs, next_places, next_small,

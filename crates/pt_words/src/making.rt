@@ -1,50 +1,59 @@
 ghost use Rattle.std.specs.Prelude.{◌≡◌, IfOk, Some, None};
-ghost use Rattle.pt_words.specs.Making.{group_in, extensions_in, create_in, mkdir_in, mknod_in, symlink_in};
-ghost use Rattle.pt_words.specs.Parted.{brought_in};
+ghost use Rattle.pt_words.specs.Fields.{optional_in};
+ghost use Rattle.pt_words.specs.Making.{label_in, extensions_in, brought_in, create_in, mkdir_in, mknod_in, symlink_in};
 
 use crate::fields::{
-    LineError, end, next_bytes, next_number, next_optional_small, next_small, next_switch,
-    next_word,
+    LineError, end, next_bytes, next_number, next_optional_small, next_sign, next_small,
+    next_switch,
 };
-use pt_iface::{Extensions, Request};
+use pt_iface::{Extensions, Request, SecContext};
 use pt_text::Parts;
 use std::alloc::Global;
 
-// The group of the process, where one is told.
-fn next_group(words: &mut Parts<'_>) -> Result<Extensions, LineError>
-    ensures ok { IfOk result (λ ext. group_in words.old ≡ Some (record { value = ext; rest = words.new })) }
-    ensures bad { result ≡ Err LineError.Bad → group_in words.old ≡ None }
-    ensures no_memory { result ≡ Err LineError.Memory → ⊥ }
+// A security context: an extended attribute and its value.
+fn next_label(alloc: Global, words: &mut Parts<'_>) -> Result<SecContext, LineError>
+    ensures ok { IfOk result (λ label. label_in words.old ≡ Some (record { value = label; rest = words.new })) }
+    ensures bad { result ≡ Err LineError.Bad → label_in words.old ≡ None }
 {
-    let sup_gid = next_optional_small(words)?;
-    Ok(Extensions {
-        secctx: None,
-        sup_gid,
-    })
+    let name = next_bytes(alloc, words)?;
+    let value = next_bytes(alloc, words)?;
+    Ok(SecContext { name, value })
+}
+
+// One behind `+`, or none for `-`.
+fn next_optional_label(
+    alloc: Global,
+    words: &mut Parts<'_>,
+) -> Result<Option<SecContext>, LineError>
+    ensures ok { IfOk result (λ label. optional_in label_in words.old
+        ≡ Some (record { value = label; rest = words.new })) }
+    ensures bad { result ≡ Err LineError.Bad → optional_in label_in words.old ≡ None }
+{
+    if next_sign(words)? {
+        Ok(Some(next_label(alloc, words)?))
+    } else {
+        Ok(None)
+    }
 }
 
 // What a request that makes an object brings beside.
-fn next_extensions(words: &mut Parts<'_>) -> Result<Extensions, LineError>
+fn next_extensions(alloc: Global, words: &mut Parts<'_>) -> Result<Extensions, LineError>
     ensures ok { IfOk result (λ ext. extensions_in words.old
         ≡ Some (record { value = ext; rest = words.new })) }
     ensures bad { result ≡ Err LineError.Bad → extensions_in words.old ≡ None }
-    ensures no_memory { result ≡ Err LineError.Memory → ⊥ }
 {
-    let label = next_word(words)?;
-    if label != b"-".as_slice() {
-        return Err(LineError::Bad);
-    }
-    next_group(words)
+    let secctx = next_optional_label(alloc, words)?;
+    let sup_gid = next_optional_small(words)?;
+    Ok(Extensions { secctx, sup_gid })
 }
 
 // The mask of the process and what it brings beside, and no more.
-fn next_brought(words: &mut Parts<'_>) -> Result<(u32, Extensions), LineError>
+fn next_brought(alloc: Global, words: &mut Parts<'_>) -> Result<(u32, Extensions), LineError>
     ensures ok { IfOk result (λ told. brought_in words.old ≡ Some told) }
     ensures bad { result ≡ Err LineError.Bad → brought_in words.old ≡ None }
-    ensures no_memory { result ≡ Err LineError.Memory → ⊥ }
 {
     let umask = next_small(words)?;
-    let ext = next_extensions(words)?;
+    let ext = next_extensions(alloc, words)?;
     end(words)?;
     Ok((umask, ext))
 }
@@ -58,7 +67,7 @@ pub fn next_create(alloc: Global, words: &mut Parts<'_>) -> Result<Request, Line
     let mode = next_small(words)?;
     let kill = next_switch(words)?;
     let flags = next_small(words)?;
-    let (umask, ext) = next_brought(words)?;
+    let (umask, ext) = next_brought(alloc, words)?;
     Ok(Request::Create {
         parent,
         name,
@@ -77,7 +86,7 @@ pub fn next_mkdir(alloc: Global, words: &mut Parts<'_>) -> Result<Request, LineE
     let parent = next_number(words)?;
     let name = next_bytes(alloc, words)?;
     let mode = next_small(words)?;
-    let (umask, ext) = next_brought(words)?;
+    let (umask, ext) = next_brought(alloc, words)?;
     Ok(Request::Mkdir {
         parent,
         name,
@@ -95,7 +104,7 @@ pub fn next_mknod(alloc: Global, words: &mut Parts<'_>) -> Result<Request, LineE
     let name = next_bytes(alloc, words)?;
     let mode = next_small(words)?;
     let rdev = next_small(words)?;
-    let (umask, ext) = next_brought(words)?;
+    let (umask, ext) = next_brought(alloc, words)?;
     Ok(Request::Mknod {
         parent,
         name,
@@ -113,7 +122,7 @@ pub fn next_symlink(alloc: Global, words: &mut Parts<'_>) -> Result<Request, Lin
     let target = next_bytes(alloc, words)?;
     let parent = next_number(words)?;
     let name = next_bytes(alloc, words)?;
-    let ext = next_extensions(words)?;
+    let ext = next_extensions(alloc, words)?;
     end(words)?;
     Ok(Request::Symlink {
         target,

@@ -3,6 +3,7 @@ ghost use Rattle.pt_words.specs.Fields.{at_end};
 ghost use Rattle.pt_words.specs.Request.{
   other_in,
   attribute_request_in,
+  xattr_request_in,
   naming_request_in,
   making_request_in,
   contents_request_in,
@@ -21,6 +22,7 @@ use crate::handles::{next_open, next_opendir, next_read, next_release, next_rele
 use crate::making::{next_create, next_mkdir, next_mknod, next_symlink};
 use crate::naming::{next_link, next_rename, next_rmdir, next_unlink};
 use crate::numbers::{next_batch_forget, next_forget, next_init, next_lookup};
+use crate::xattrs::{next_getxattr, next_listxattr, next_readdir, next_removexattr, next_setxattr};
 use pt_iface::Request;
 use pt_text::{Parts, is_word};
 use std::alloc::Global;
@@ -53,7 +55,7 @@ fn next_other(words: &mut Parts<'_>) -> Result<Request, LineError>
     Ok(Request::Other { opcode })
 }
 
-// None of the six functions below is inlined into the next: a request is made where the reader of a line wants it,
+// None of the seven functions below is inlined into the next: a request is made where the reader of a line wants it,
 // and is not moved from one to another.
 
 // A request for what an object tells, or for a change of that.
@@ -79,6 +81,32 @@ fn next_attribute_request(word: &[u8], words: &mut Parts<'_>) -> Result<Request,
     }
 }
 
+// A request for extended attributes, or for what a directory holds, or one of the above.
+#[tactic(auto, unfolding(crate::specs::Request::xattr_request_in))]
+#[inline(never)]
+fn next_xattr_request(
+    alloc: Global,
+    word: &[u8],
+    words: &mut Parts<'_>,
+) -> Result<Request, LineError>
+    ensures ok { IfOk result (λ request. xattr_request_in word.now words.old ≡ Some request) }
+    ensures bad { result ≡ Err LineError.Bad → xattr_request_in word.now words.old ≡ None }
+{
+    if is_word(word, b"readdir") {
+        next_readdir(words)
+    } else if is_word(word, b"setxattr") {
+        next_setxattr(alloc, words)
+    } else if is_word(word, b"getxattr") {
+        next_getxattr(alloc, words)
+    } else if is_word(word, b"listxattr") {
+        next_listxattr(words)
+    } else if is_word(word, b"removexattr") {
+        next_removexattr(alloc, words)
+    } else {
+        next_attribute_request(word, words)
+    }
+}
+
 // A request that gives a name or takes one away, or one of the above.
 #[tactic(auto, unfolding(crate::specs::Request::naming_request_in))]
 #[inline(never)]
@@ -99,7 +127,7 @@ fn next_naming_request(
     } else if is_word(word, b"rename") {
         next_rename(alloc, words)
     } else {
-        next_attribute_request(word, words)
+        next_xattr_request(alloc, word, words)
     }
 }
 

@@ -7,15 +7,17 @@ ghost use Rattle.pt_frame.specs.Tree.{RequestTree, Gives};
 ghost use Rattle.pt_frame.specs.declared.told.Heard.{Heard};
 ghost use Rattle.pt_host.specs.Call.{call_of};
 ghost use Rattle.pt_iface.specs.declared.answer.Answer.{Answer};
+ghost use Rattle.pt_req.specs.Attributes.{label_seen, name_seen};
 ghost use Rattle.pt_attr.specs.Making.{asked_of, is_nul, kept_at, label_at, labelled_at, make_object, set_by_name};
 ghost use Rattle.pt_attr.specs.Making.{set_opened, targeted};
 
+use crate::parts::creating::{or_refused, undone};
 use crate::steps::{make, try_open_at};
 use pt_frame::{Asked, Heard, Stop, brackets, shuts};
 use pt_host::{Bytes, Errno, Fd, HostOp, HostSeat, OpenFlags};
-use pt_iface::{Answer, Context, Extensions, SecContext};
+use pt_iface::{Answer, Context, Extensions};
 use pt_req::{
-    BegunSession, Plan, as_asker, asker_of, do_lookup, is_blocked, or_refused, set_xattr, undone,
+    BegunSession, Label, Plan, as_asker, asker_of, do_lookup, set_xattr, umask_of, under_umask,
 };
 
 /// Where an object is to be made, and who asks it.
@@ -24,6 +26,8 @@ pub struct ObjectAsked<'a> {
     pub who: Context,
     pub parent: u64,
     pub name: &'a Bytes,
+    /// The bits that its mode loses, where the guest leaves its umask to the host. A symbolic link has none.
+    pub umask: Option<u32>,
     pub ext: &'a Extensions,
 }
 
@@ -105,24 +109,23 @@ fn kept_at<'a>(
     or_refused(told, at, undoing, refused)
 }
 
-/// Its context of security is one, unless that is blocked.
-#[tactic(auto, unfolding(crate::specs::Making::label_at))]
+/// Its context of security is one, unless the guest may not use that.
+#[tactic(auto, using(pt_frame::proofs::Reading::rest))]
 fn label_at<'a>(
     told: &'a [Heard],
     at: &mut usize,
-    session: BegunSession,
     dir: Fd,
     name: &'a Bytes,
     undoing: HostOp<'a>,
-    label: &'a SecContext,
+    value: &'a Bytes,
+    attribute: Result<&'a Bytes, Errno>,
 ) -> Asked<'a, ()>
     ensures { (next : RequestTree) → Reads told.now at.old at.new result
-        (label_at session dir name.now (call_of undoing.entry) label.now next) (λ done. next) }
+        (label_at dir name.now (call_of undoing.entry) value.now (name_seen attribute.entry) next) (λ done. next) }
 {
-    if is_blocked(session.agreed, label.name.as_slice()) {
-        undone(told, at, undoing, Answer::Refused(Errno::EOPNOTSUPP))
-    } else {
-        kept_at(told, at, dir, name, undoing, &label.name, &label.value)
+    match attribute {
+        Err(errno) => undone(told, at, undoing, Answer::Refused(errno)),
+        Ok(attribute) => kept_at(told, at, dir, name, undoing, attribute, value),
     }
 }
 
@@ -131,18 +134,17 @@ fn label_at<'a>(
 fn labelled_at<'a>(
     told: &'a [Heard],
     at: &mut usize,
-    session: BegunSession,
     dir: Fd,
     name: &'a Bytes,
     undoing: HostOp<'a>,
-    label: &'a Option<SecContext>,
+    label: Option<Label<'a>>,
 ) -> Asked<'a, ()>
     ensures { (next : RequestTree) → Reads told.now at.old at.new result
-        (labelled_at session dir name.now (call_of undoing.entry) label.now next) (λ done. next) }
+        (labelled_at dir name.now (call_of undoing.entry) (label_seen label.entry) next) (λ done. next) }
 {
     match label {
         None => Ok(()),
-        Some(label) => label_at(told, at, session, dir, name, undoing, label),
+        Some(label) => label_at(told, at, dir, name, undoing, label.value, label.name),
     }
 }
 
@@ -154,25 +156,20 @@ pub fn make_object<'a>(
     seat: &HostSeat,
     session: BegunSession,
     asked: ObjectAsked<'a>,
+    label: Option<Label<'a>>,
     dir: Fd,
     making: HostOp<'a>,
     undoing: HostOp<'a>,
 ) -> Asked<'a, Answer>
-    ensures { Reads told.now at.old at.new result (make_object plan.now seat.now session (asked_of asked.entry) dir
-        (call_of making.entry) (call_of undoing.entry)) Gives }
+    ensures { Reads told.now at.old at.new result (make_object plan.now seat.now session (asked_of asked.entry)
+        (label_seen label.entry) dir (call_of making.entry) (call_of undoing.entry)) Gives }
 {
     let asker = asker_of(plan, session, asked.who, asked.ext.sup_gid);
+    let umask = umask_of(session, asked.umask);
     as_asker(told, at, seat, asker)?;
+    under_umask(told, at, umask)?;
     make(told, at, making)?;
-    labelled_at(
-        told,
-        at,
-        session,
-        dir,
-        asked.name,
-        undoing,
-        &asked.ext.secctx,
-    )?;
+    labelled_at(told, at, dir, asked.name, undoing, label)?;
     let looked = do_lookup(told, at, plan, session, asked.parent, asked.name)?;
     Ok(Answer::Entry(looked.entry))
 }

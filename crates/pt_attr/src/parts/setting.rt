@@ -7,7 +7,7 @@ ghost use Rattle.pt_frame.specs.declared.told.Heard.{Heard};
 ghost use Rattle.pt_host.specs.Call.{call_of};
 ghost use Rattle.pt_host.specs.declared.ids.Fd.{Fd};
 ghost use Rattle.pt_maps.specs.Translated.{to_host};
-ghost use Rattle.pt_attr.specs.Setting.{atime_set, cut_if, cut_to, do_if, file_set, id_set, is_missized};
+ghost use Rattle.pt_attr.specs.Setting.{atime_set, cut_if, cut_to, do_if, file_set, give_to, id_set, is_missized};
 ghost use Rattle.pt_attr.specs.Setting.{kills_suidgid, mtime_set, opens_anew, own_as, own_if, set_mode};
 ghost use Rattle.pt_attr.specs.Setting.{set_owner, set_size, set_times, sets_atime, sets_gid, sets_mode, sets_mtime};
 ghost use Rattle.pt_attr.specs.Setting.{sets_size, sets_uid, sized, target_of, time_set};
@@ -15,10 +15,13 @@ ghost use Rattle.pt_attr.specs.declared.parts.setting.Target.{Target};
 
 use crate::steps::do_call;
 use pt_frame::{Asked, Heard, Stop, bares};
-use pt_host::{Errno, Fd, HostOp, HostSeat, Time, TimeSet};
+use pt_host::{Bytes, Errno, Fd, HostOp, HostSeat, Time, TimeSet};
 use pt_iface::{Answer, SetattrIn, SetattrValid};
 use pt_maps::IdMap;
-use pt_req::{Plan, drops_fsetid, file_of, is_bad_offset, open_row, pin_handle, without_fsetid};
+use pt_req::{
+    Plan, clear_capability, drops_fsetid, file_of, is_bad_offset, open_row, pin_handle,
+    without_fsetid,
+};
 use pt_session::Resolved;
 
 /// The id that leaves an owner as it is.
@@ -188,17 +191,34 @@ fn id_set(is_set: bool, map: &IdMap, id: u32) -> Option<u32>
     map.map_guest(id).ok()
 }
 
-/// The owner becomes this one, unless an id is forbidden.
+/// The owner becomes this one, and the file has no capabilities then.
+fn give_to<'a>(
+    told: &'a [Heard],
+    at: &mut usize,
+    name: &'a Option<Bytes>,
+    file: Fd,
+    uid: u32,
+    gid: u32,
+) -> Asked<'a, ()>
+    ensures { (next : RequestTree) →
+        Reads told.now at.old at.new result (give_to name.now file uid gid next) (λ done. next) }
+{
+    clear_capability(told, at, name, file, true)?;
+    do_call(told, at, HostOp::ChOwn { fd: file, uid, gid })
+}
+
+/// It does unless an id is forbidden.
 #[tactic(auto, using(pt_frame::proofs::Reading::gives))]
 fn own_as<'a>(
     told: &'a [Heard],
     at: &mut usize,
+    name: &'a Option<Bytes>,
     file: Fd,
     uid: Option<u32>,
     gid: Option<u32>,
 ) -> Asked<'a, ()>
     ensures { (next : RequestTree) →
-        Reads told.now at.old at.new result (own_as file uid gid next) (λ done. next) }
+        Reads told.now at.old at.new result (own_as name.now file uid gid next) (λ done. next) }
 {
     let Some(uid) = uid else {
         return Err(Stop::Gives(Answer::Refused(Errno::EPERM)));
@@ -206,7 +226,7 @@ fn own_as<'a>(
     let Some(gid) = gid else {
         return Err(Stop::Gives(Answer::Refused(Errno::EPERM)));
     };
-    do_call(told, at, HostOp::ChOwn { fd: file, uid, gid })
+    give_to(told, at, name, file, uid, gid)
 }
 
 /// It does where it is asked for.
@@ -215,17 +235,18 @@ fn own_if<'a>(
     told: &'a [Heard],
     at: &mut usize,
     asked: bool,
+    name: &'a Option<Bytes>,
     file: Fd,
     uid: Option<u32>,
     gid: Option<u32>,
 ) -> Asked<'a, ()>
     ensures { (next : RequestTree) →
-        Reads told.now at.old at.new result (own_if asked file uid gid next) (λ done. next) }
+        Reads told.now at.old at.new result (own_if asked name.now file uid gid next) (λ done. next) }
 {
     if !asked {
         return Ok(());
     }
-    own_as(told, at, file, uid, gid)
+    own_as(told, at, name, file, uid, gid)
 }
 
 fn sets_owner(valid: SetattrValid) -> bool
@@ -250,7 +271,7 @@ fn gid_set(plan: &Plan, valid: SetattrValid, attr: &SetattrIn) -> Option<u32>
 pub fn set_owner<'a>(
     told: &'a [Heard],
     at: &mut usize,
-    plan: &Plan,
+    plan: &'a Plan,
     valid: SetattrValid,
     attr: &SetattrIn,
     file: Fd,
@@ -261,15 +282,23 @@ pub fn set_owner<'a>(
     let asked = sets_owner(valid);
     let uid = uid_set(plan, valid, attr);
     let gid = gid_set(plan, valid, attr);
-    own_if(told, at, asked, file, uid, gid)
+    own_if(told, at, asked, &plan.capability, file, uid, gid)
 }
 
-/// The size is set, so that set-id bits go where the guest asks that.
-fn cut_to<'a>(told: &'a [Heard], at: &mut usize, drops: bool, file: Fd, size: u64) -> Asked<'a, ()>
+/// The size is set, so that set-id bits go where the guest asks that, and capabilities in any case.
+fn cut_to<'a>(
+    told: &'a [Heard],
+    at: &mut usize,
+    drops: bool,
+    name: &'a Option<Bytes>,
+    file: Fd,
+    size: u64,
+) -> Asked<'a, ()>
     ensures { (next : RequestTree) →
-        Reads told.now at.old at.new result (cut_to drops file size next) (λ done. next) }
+        Reads told.now at.old at.new result (cut_to drops name.now file size next) (λ done. next) }
 {
     without_fsetid(told, at, drops)?;
+    clear_capability(told, at, name, file, false)?;
     do_call(told, at, HostOp::Truncate { fd: file, size })?;
     bares(told, at)
 }
@@ -281,22 +310,23 @@ fn cut_if<'a>(
     at: &mut usize,
     asked: bool,
     drops: bool,
+    name: &'a Option<Bytes>,
     file: Fd,
     size: u64,
 ) -> Asked<'a, ()>
     ensures { (next : RequestTree) →
-        Reads told.now at.old at.new result (cut_if asked drops file size next) (λ done. next) }
+        Reads told.now at.old at.new result (cut_if asked drops name.now file size next) (λ done. next) }
 {
     if !asked {
         return Ok(());
     }
-    cut_to(told, at, drops, file, size)
+    cut_to(told, at, drops, name, file, size)
 }
 
 pub fn set_size<'a>(
     told: &'a [Heard],
     at: &mut usize,
-    plan: &Plan,
+    plan: &'a Plan,
     seat: &HostSeat,
     valid: SetattrValid,
     attr: &SetattrIn,
@@ -308,7 +338,15 @@ pub fn set_size<'a>(
     let asked = sets_size(valid);
     let kill = kills_suidgid(valid);
     let drops = drops_fsetid(plan, seat, kill);
-    cut_if(told, at, asked, drops, target.fd, attr.size)
+    cut_if(
+        told,
+        at,
+        asked,
+        drops,
+        &plan.capability,
+        target.fd,
+        attr.size,
+    )
 }
 
 fn time_set(now: bool, told: bool, sec: u64, nsec: u32) -> TimeSet

@@ -84,7 +84,7 @@ pub fn access<'a>(
 pub fn setattr<'a>(
     told: &'a [Heard],
     at: &mut usize,
-    plan: &Plan,
+    plan: &'a Plan,
     seat: &HostSeat,
     inode: u64,
     handle: Option<u64>,

@@ -11,7 +11,10 @@ use crate::steps::{count_of, do_call};
 use pt_frame::{Asked, Heard, bares};
 use pt_host::{Bytes, HostOp, HostSeat, OpenFlags};
 use pt_iface::Answer;
-use pt_req::{BegunSession, Plan, drops_fsetid, open_inode, pin_handle, placed, without_fsetid};
+use pt_req::{
+    BegunSession, Plan, clear_capability, drops_fsetid, open_inode, pin_handle, placed,
+    without_fsetid,
+};
 
 /// What is to be written, and where.
 #[derive(Clone, Copy)]
@@ -51,7 +54,7 @@ pub fn appends(delayed: bool, flags: u32) -> bool
 pub fn write<'a>(
     told: &'a [Heard],
     at: &mut usize,
-    plan: &Plan,
+    plan: &'a Plan,
     seat: &HostSeat,
     asked: WriteAsked<'a>,
 ) -> Asked<'a, Answer>
@@ -64,6 +67,7 @@ pub fn write<'a>(
     placed(asked.offset)?;
     let fd = pin_handle(told, at, asked.handle, asked.inode)?;
     without_fsetid(told, at, drops)?;
+    clear_capability(told, at, &plan.capability, fd, false)?;
     let op = write_at(fd, asked.offset, asked.bytes, append);
     let count = count_of(told, at, op)?;
     bares(told, at)?;

@@ -5,7 +5,7 @@ use Rattle.pt_frame.specs.Replies.{closings_in, refusal}
 use Rattle.pt_frame.specs.Tree.{RequestTree, Gives, Refuses, Asks, Opens, Bares, Brackets, Shuts, Allocates}
 use Rattle.pt_frame.specs.Machine.Brings.{act_brings, act_may, brings_of}
 use Rattle.pt_frame.specs.Machine.Left.{held_by}
-use Rattle.pt_frame.specs.Machine.Walk.{AsksFor, HasBytes, bytes_in, moved_as}
+use Rattle.pt_frame.specs.Machine.Walk.{AsksFor, HasFor, moved_in}
 use Rattle.pt_frame.specs.declared.act.Act.{Act}
 use Rattle.pt_frame.specs.declared.act.ActReply.{ActReply}
 use Rattle.pt_frame.specs.declared.asking.Stop.{Stop}
@@ -22,11 +22,13 @@ IsAhead told (Asks deed more) ahead.Act = Unit {0}
 IsAhead told (Opens call scope more) ahead.Act = Unit {0}
 IsAhead told (Gives last) (ahead.Gives same) = same ≡ last
 IsAhead told (Gives last) (ahead.Moves what place) =
-    HasBytes told place × (moved_as what (bytes_in (slice_get told place)) ≡ last)
+    HasFor what told place × (moved_in what (slice_get told place) ≡ last)
 IsAhead told (Refuses reply) (ahead.Refuses same) = same ≡ refusal reply
 IsAhead told (Bares rest) ahead.Bares = Unit {0}
 IsAhead told (Brackets rest) ahead.Brackets = Unit {0}
 IsAhead told (Shuts passes rest) (ahead.Shuts same) = same ≡ passes
+IsAhead told (Allocates made next) (ahead.Makes same) = same ≡ made
+IsAhead told (Allocates made next) ahead.GivesUp = Unit {0}
 IsAhead told _ _ = ⊥
 
 -- what the act brings at most at which it stops

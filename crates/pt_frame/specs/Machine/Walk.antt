@@ -7,6 +7,9 @@ use Rattle.pt_host.specs.declared.reply.HostReply.TheVariants as host
 use Rattle.pt_host.specs.declared.reply.HostValue.TheVariants as value
 use Rattle.pt_iface.specs.declared.answer.Answer.{Answer}
 use Rattle.pt_iface.specs.declared.answer.Answer.TheVariants as answer
+use Rattle.pt_iface.specs.declared.answer.GetxattrReply.TheVariants as xattr
+use Rattle.pt_iface.specs.declared.answer.ListxattrReply.TheVariants as xattrs
+use Rattle.pt_iface.specs.declared.directory.DirEntry.{DirEntry}
 use Rattle.pt_session.specs.declared.event.KeptEvent.TheVariants as change
 use Rattle.pt_frame.specs.Deed.{Deed, Calls, Changes, deed_of}
 use Rattle.pt_frame.specs.Replies.{bytes_of}
@@ -21,6 +24,7 @@ use Rattle.pt_frame.specs.declared.told.Heard.{Heard}
 use Rattle.pt_frame.specs.declared.told.Heard.TheVariants as heard
 use Rattle.pt_frame.specs.declared.told.Moved.{Moved}
 use Rattle.pt_frame.specs.declared.told.Moved.TheVariants as moved
+use Rattle.pt_frame.specs.declared.product.Product.TheVariants as product
 use Rattle.pt_frame.specs.declared.asking.Stop.{Stop}
 use Rattle.pt_frame.specs.declared.asking.Stop.TheVariants as stop
 
@@ -41,6 +45,7 @@ told_on (Opens asked scope more) (heard.Reply reply may) = or_astray (is_same ma
 told_on (Bares rest) heard.Bares = rest
 told_on (Brackets rest) heard.Brackets = rest
 told_on (Shuts passes rest) heard.Shuts = rest
+told_on (Allocates made next) (heard.Kept kept) = next kept
 told_on tree it = astray
 
 -- and once it was told all of these
@@ -90,7 +95,12 @@ or_none (Some bytes) = bytes
 
 abbrev pub bytes_in : Option Heard → List ℕ
 bytes_in (Some (heard.Reply reply may)) = or_none (bytes_of reply)
+bytes_in (Some (heard.Kept (product.Bytes bytes))) = bytes
 bytes_in it = []
+
+abbrev pub entries_in : Option Heard → List DirEntry
+entries_in (Some (heard.Kept (product.Entries entries))) = entries
+entries_in it = []
 
 -- it brought bytes
 abbrev pub ReplyHasBytes : ActReply → Type 0
@@ -99,15 +109,32 @@ ReplyHasBytes told = ⊥
 
 abbrev pub IsWithBytes : Option Heard → Type 0
 IsWithBytes (Some (heard.Reply reply may)) = ReplyHasBytes reply
+IsWithBytes (Some (heard.Kept (product.Bytes bytes))) = Unit {0}
 IsWithBytes it = ⊥
 
 abbrev pub HasBytes : List Heard → ℕ → Type 0
 HasBytes told place = IsWithBytes (slice_get told place)
 
--- the answer that bytes make
-abbrev pub moved_as : Moved → List ℕ → Answer
-moved_as moved.Read bytes = answer.Read bytes
-moved_as moved.Link bytes = answer.Link bytes
+-- entries of a listing were made
+abbrev pub IsWithEntries : Option Heard → Type 0
+IsWithEntries (Some (heard.Kept (product.Entries entries))) = Unit {0}
+IsWithEntries it = ⊥
+
+-- there is what such an answer is made of
+abbrev pub HasFor : Moved → List Heard → ℕ → Type 0
+HasFor moved.Read told place = HasBytes told place
+HasFor moved.Link told place = HasBytes told place
+HasFor moved.Xattr told place = HasBytes told place
+HasFor moved.Xattrs told place = HasBytes told place
+HasFor moved.Listing told place = IsWithEntries (slice_get told place)
+
+-- the answer that it makes
+abbrev pub moved_in : Moved → Option Heard → Answer
+moved_in moved.Read it = answer.Read (bytes_in it)
+moved_in moved.Link it = answer.Link (bytes_in it)
+moved_in moved.Xattr it = answer.Xattr (xattr.Value (bytes_in it))
+moved_in moved.Xattrs it = answer.Xattrs (xattrs.Names (bytes_in it))
+moved_in moved.Listing it = answer.Listing (entries_in it)
 
 -- it stops where the tree does
 unfoldable pub IsStop : List Heard → RequestTree → Stop → Type 0
@@ -115,11 +142,13 @@ IsStop told (Asks deed more) (stop.Wants act) = deed_of act ≡ deed
 IsStop told (Opens call scope more) (stop.Opens act laid) = (deed_of act ≡ Calls call) × (laid ≡ scope)
 IsStop told (Gives last) (stop.Gives same) = same ≡ last
 IsStop told (Gives last) (stop.Moves what place) =
-    HasBytes told place × (moved_as what (bytes_in (slice_get told place)) ≡ last)
+    HasFor what told place × (moved_in what (slice_get told place) ≡ last)
 IsStop told (Refuses reply) (stop.Refuses same) = same.now ≡ reply
 IsStop told (Bares rest) stop.Bares = Unit {0}
 IsStop told (Brackets rest) stop.Brackets = Unit {0}
 IsStop told (Shuts passes rest) (stop.Shuts same) = same ≡ passes
+IsStop told (Allocates made next) (stop.Makes same) = same ≡ made
+IsStop told (Allocates made next) stop.GivesUp = Unit {0}
 IsStop told _ _ = ⊥
 
 -- what is not read yet

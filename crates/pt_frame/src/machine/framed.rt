@@ -1,5 +1,5 @@
-ghost use Rattle.std.specs.Prelude.{◌≡◌, ◌⊎◌, ◌+◌, ◌-◌, ◌*◌, ◌<◌, ◌≤◌, ℕ, [], true, false, Some, None, length, List, Bool};
-ghost use Rattle.std.specs.Prelude.{Option};
+ghost use Rattle.std.specs.Prelude.{◌≡◌, ◌⊎◌, ◌+◌, ◌-◌, ◌*◌, ◌<◌, ◌≤◌, ℕ, [], true, false, Some, None, length, List};
+ghost use Rattle.std.specs.Prelude.{Bool, Option};
 ghost use Rattle.pt_host.specs.declared.ids.Errno.{Errno};
 ghost use Rattle.pt_host.specs.declared.seat.HostSeat.{HostSeat};
 ghost use Rattle.pt_frame.specs.Frame.{closings};
@@ -87,6 +87,8 @@ fn wanted<'a>(stop: Stop<'a>) -> Act<'a>
         Stop::Bares => Act::Event(Event::Begin),
         Stop::Brackets => Act::Event(Event::Begin),
         Stop::Shuts(_passes) => Act::Event(Event::Begin),
+        Stop::Makes(_product) => Act::Event(Event::Begin),
+        Stop::GivesUp => Act::Event(Event::Begin),
     }
 }
 
@@ -98,8 +100,8 @@ fn moved<B: Body>(
     holds: &mut Holds,
     marks: &mut Marks,
     plan: &B::Plan,
-    seat: &HostSeat,
     reply: ActReply,
+    seat: &HostSeat,
 ) -> u64
     requires going { is_over mode.old holds.old ≡ false }
     requires ready { is_ready mode.old holds.old marks.old ≡ true }
@@ -125,8 +127,8 @@ fn moved<B: Body>(
         Tells mode.new (lost_after lost (is_giving_scope mode.old holds.old) reply) }
 {
     match mode {
-        Mode::Body => body_stepped(mode, body, told, holds, marks, plan, seat, reply),
-        _ => hold_given(mode, body, told, holds, marks, plan, seat, &reply),
+        Mode::Body => body_stepped(mode, body, told, holds, marks, plan, reply, seat),
+        _ => hold_given(mode, body, told, holds, marks, plan, &reply, seat),
     }
 }
 
@@ -186,7 +188,7 @@ impl<B: Body> Framed<B> {
 
     /// Goes on from the reply of the act that was wanted.
     #[tactic(auto, using(crate::proofs::Counting::first_most))]
-    pub fn take(&mut self, plan: &B::Plan, seat: &HostSeat, reply: ActReply)
+    pub fn take(&mut self, plan: &B::Plan, reply: ActReply, seat: &HostSeat)
         requires { is_finished self.old.at ≡ false }
         ensures body { self.new.body ≡ self.old.body }
         ensures left { IsChosen
@@ -234,8 +236,8 @@ impl<B: Body> Framed<B> {
             &mut self.holds,
             &mut self.marks,
             plan,
-            seat,
             reply,
+            seat,
         );
         self.closings = closings;
     }

@@ -29,6 +29,7 @@ use crate::machine::giving::{closings_in, fault_if, giving, is_scope, refusal};
 use crate::machine::holding::hold;
 use crate::machine::mode::{Mode, answered, go_to, is_above, lost, passes_at, take_next, tops};
 use crate::marks::Marks;
+use crate::product::Product;
 use crate::told::{Brings, Heard, Moved, Told, act_may};
 use pt_host::{Errno, HostSeat};
 use pt_iface::Answer;
@@ -45,6 +46,9 @@ pub enum Ahead {
     Shuts(bool),
     /// A refusal is answered so.
     Refuses(Answer),
+    /// It made this.
+    Makes(Product),
+    GivesUp,
 }
 
 /// The same of where a request stops.
@@ -60,10 +64,13 @@ fn comes_next(stop: Stop<'_>) -> Ahead
         Stop::Bares => Ahead::Bares,
         Stop::Brackets => Ahead::Brackets,
         Stop::Shuts(passes) => Ahead::Shuts(passes),
+        Stop::Makes(product) => Ahead::Makes(product),
+        Stop::GivesUp => Ahead::GivesUp,
     }
 }
 
-/// Passes the mark that comes next where nothing is to be given back at it; else tells how the request goes on.
+/// Passes the mark that comes next where nothing is to be given back at it, and keeps what was made; else tells how the
+/// request goes on.
 fn marked<B: Body>(
     body: &B,
     told: &mut Told,
@@ -73,9 +80,8 @@ fn marked<B: Body>(
     seat: &HostSeat,
 ) -> Option<Mode>
     requires room { length holds.now + length marks.old + (most_holds - room_spent told.old) ≤ most_holds }
-    ensures some { IfSome result (λ mode. Enters seat.now (framed seat.now
-        (walk (B.tree body.now plan.now seat.now) told.old) holds.now marks.old)
-        (B.tree body.now plan.now seat.now) (B.acts body.now) holds.now told.old mode told.new marks.new) }
+    ensures some { IfSome result (λ mode. Enters seat.now (B.tree body.now plan.now seat.now) (B.acts body.now)
+        holds.now told.old marks.old mode told.new marks.new) }
     ensures none { IfNone result (Passes seat.now (B.tree body.now plan.now seat.now) holds.now told.old marks.old
         told.new marks.new) }
 {
@@ -104,6 +110,11 @@ fn marked<B: Body>(
             told.push(Heard::Shuts);
             None
         }
+        Ahead::Makes(product) => {
+            told.push(Heard::Kept(product));
+            None
+        }
+        Ahead::GivesUp => Some(Mode::Leave(Finish::Answer(Answer::NoMemory))),
     }
 }
 
@@ -117,9 +128,8 @@ fn entered<B: Body>(
     seat: &HostSeat,
 ) -> Mode
     requires room { length holds.now + length marks.old + (most_holds - room_spent told.old) ≤ most_holds }
-    ensures { Enters seat.now (framed seat.now
-        (walk (B.tree body.now plan.now seat.now) told.old) holds.now marks.old)
-        (B.tree body.now plan.now seat.now) (B.acts body.now) holds.now told.old result told.new marks.new }
+    ensures { Enters seat.now (B.tree body.now plan.now seat.now) (B.acts body.now) holds.now told.old marks.old result
+        told.new marks.new }
 {
     match marked(body, told, holds, marks, plan, seat) {
         Some(mode) => mode,
@@ -168,8 +178,8 @@ pub fn hold_given<B: Body>(
     holds: &mut Holds,
     marks: &mut Marks,
     plan: &B::Plan,
-    seat: &HostSeat,
     reply: &ActReply,
+    seat: &HostSeat,
 ) -> u64
     requires other { mode.old ≢ in_body }
     requires going { is_over mode.old holds.old ≡ false }
@@ -252,8 +262,8 @@ fn hear_of<B: Body>(
     body: &B,
     told: &Told,
     plan: &B::Plan,
-    seat: &HostSeat,
     reply: &ActReply,
+    seat: &HostSeat,
     holds: &mut Holds,
 ) -> Option<(u64, Brings)>
     requires { length holds.old + (most_holds - room_spent told.now) ≤ most_holds }
@@ -275,8 +285,8 @@ pub fn body_stepped<B: Body>(
     holds: &mut Holds,
     marks: &mut Marks,
     plan: &B::Plan,
-    seat: &HostSeat,
     reply: ActReply,
+    seat: &HostSeat,
 ) -> u64
     requires room { length holds.old + length marks.old + (most_holds - room_spent told.old) ≤ most_holds }
     requires act { 1 ≤ B.acts body.now - acts_spent told.old }
@@ -297,7 +307,7 @@ pub fn body_stepped<B: Body>(
     ensures stays { Stays mode.new (B.acts body.now - acts_spent told.new) (length told.new) }
     ensures tells { Tells mode.new None }
 {
-    match hear_of(body, told, plan, seat, &reply, holds) {
+    match hear_of(body, told, plan, &reply, seat, holds) {
         None => {
             go_to(mode, Mode::Leave(Finish::Answer(refusal(&reply))));
             0

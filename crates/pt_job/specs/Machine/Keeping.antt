@@ -9,11 +9,13 @@ use Rattle.pt_frame.specs.Machine.Walk.{IsAsks}
 use Rattle.pt_req.specs.declared.plan.Plan.{Plan}
 use Rattle.pt_req.proofs.Keeping.{init_keeps, destroy_keeps, root_request_keeps, lookup_keeps, batch_forget_keeps}
 use Rattle.pt_req.proofs.Keeping.{forget_keeps, open_file_keeps, open_dir_keeps, release_keeps, read_keeps}
-use Rattle.pt_req.proofs.Keeping.{create_keeps, unserved_keeps}
+use Rattle.pt_req.proofs.Keeping.{unserved_keeps}
 use Rattle.pt_attr.proofs.Keeping.{readlink_keeps, statfs_keeps, getattr_keeps, access_keeps, unlink_keeps, rmdir_keeps}
 use Rattle.pt_attr.proofs.Keeping.{link_keeps, rename_keeps, setattr_keeps, mkdir_keeps, mknod_keeps, symlink_keeps}
 use Rattle.pt_attr.proofs.Keeping.{write_keeps, fallocate_keeps, lseek_keeps, copy_keeps, flush_keeps, fsync_keeps}
 use Rattle.pt_attr.proofs.Keeping.{syncfs_keeps}
+use Rattle.pt_attr.proofs.Keeping.{create_keeps}
+use Rattle.pt_xattr.proofs.Keeping.{getxattr_keeps, listxattr_keeps, readdir_keeps, removexattr_keeps, setxattr_keeps}
 use Rattle.pt_job.specs.Machine.Body.{any_acts, any_tree}
 use Rattle.pt_job.specs.Pattern.{bound_of, tree_of}
 use Rattle.pt_job.specs.declared.body.AnyBody.{AnyBody}
@@ -47,7 +49,7 @@ each_keeps plan seat who (request.StatFs inode) = statfs_keeps inode
 each_keeps plan seat who (request.GetAttr inode) = getattr_keeps plan inode
 each_keeps plan seat who (request.SetAttr inode handle valid attr) = setattr_keeps plan seat inode handle valid attr
 each_keeps plan seat who (request.Access inode mask) = access_keeps plan who inode mask
-each_keeps plan seat who (request.ReadDir inode handle size offset) = unserved_keeps 7
+each_keeps plan seat who (request.ReadDir inode handle size offset) = readdir_keeps inode handle size offset
 each_keeps plan seat who (request.Flush inode handle) = flush_keeps inode handle
 each_keeps plan seat who (request.Fsync inode handle datasync) = fsync_keeps inode handle datasync
 each_keeps plan seat who (request.FsyncDir inode handle datasync) = fsync_keeps inode handle datasync
@@ -57,10 +59,11 @@ each_keeps plan seat who (request.Fallocate inode handle mode offset length) =
 each_keeps plan seat who (request.Lseek inode handle offset whence) = lseek_keeps inode handle offset whence
 each_keeps plan seat who (request.CopyFileRange inode handle offset inode2 handle2 offset2 length flags) =
     copy_keeps inode handle offset inode2 handle2 offset2 length flags
-each_keeps plan seat who (request.SetXattr inode name value flags extra) = unserved_keeps 47
-each_keeps plan seat who (request.GetXattr inode name size) = unserved_keeps 47
-each_keeps plan seat who (request.ListXattr inode size) = unserved_keeps 47
-each_keeps plan seat who (request.RemoveXattr inode name) = unserved_keeps 47
+each_keeps plan seat who (request.SetXattr inode name value flags extra) =
+    setxattr_keeps plan inode name value flags extra
+each_keeps plan seat who (request.GetXattr inode name size) = getxattr_keeps plan inode name size
+each_keeps plan seat who (request.ListXattr inode size) = listxattr_keeps plan inode size
+each_keeps plan seat who (request.RemoveXattr inode name) = removexattr_keeps plan inode name
 each_keeps plan seat who (request.Other opcode) = unserved_keeps 47
 
 each_begins : (plan : Plan) (seat : HostSeat) (who : Context) (asked : Request) → IsAsks (tree_of plan seat who asked)

@@ -2,7 +2,7 @@ ghost use Rattle.std.specs.Prelude.{◌≡◌};
 ghost use Rattle.pt_frame.specs.Machine.Walk.{Reads};
 ghost use Rattle.pt_frame.specs.Tree.{RequestTree};
 ghost use Rattle.pt_req.specs.Asker.{group_of, asker_of, group_set, egid_set, euid_set, cap_raised, taken_on};
-ghost use Rattle.pt_req.specs.Asker.{as_asker};
+ghost use Rattle.pt_req.specs.Asker.{as_asker, umask_of, under_umask};
 
 use crate::begun::BegunSession;
 use crate::plan::Plan;
@@ -83,6 +83,29 @@ fn cap_raised<'a>(told: &'a [Heard], at: &mut usize, raise: bool) -> Asked<'a, (
         try_call(told, at, HostOp::RaiseCap { caps })
     } else {
         Ok(())
+    }
+}
+
+/// The umask that counts: that of who asks, where access control lists were agreed on.
+pub fn umask_of(session: BegunSession, umask: Option<u32>) -> Option<u32>
+    ensures { result ≡ umask_of session umask }
+{
+    if session.agreed.posix_acl {
+        umask
+    } else {
+        None
+    }
+}
+
+/// A umask is set, if there is one to set.
+#[tactic(auto, using(pt_frame::proofs::Reading::rest))]
+pub fn under_umask<'a>(told: &'a [Heard], at: &mut usize, umask: Option<u32>) -> Asked<'a, ()>
+    ensures { (next : RequestTree) →
+        Reads told.now at.old at.new result (under_umask umask next) (λ done. next) }
+{
+    match umask {
+        None => Ok(()),
+        Some(mask) => open_scope(told, at, HostOp::SetUmask { mask }, Hold::Umask),
     }
 }
 

@@ -2,11 +2,12 @@ ghost use Rattle.std.specs.Prelude.{◌≡◌};
 ghost use Rattle.pt_req.specs.Options.{without_bits, cleaned, readable, written_back, passed_on, inode_flags};
 ghost use Rattle.pt_req.specs.Options.{without_nofollow, bits_if};
 ghost use Rattle.pt_req.specs.Options.{cache_options, open_options, create_options, making_flags, agreed_with};
-ghost use Rattle.pt_req.specs.Options.{init_options, keeps_writes};
+ghost use Rattle.pt_req.specs.Options.{init_options, keeps_writes, is_short_of};
+ghost use Rattle.pt_req.specs.Requests.{init_answer};
 
 use crate::plan::{CachePolicy, Config};
-use pt_host::OpenFlags;
-use pt_iface::{FsOptions, OpenOptions};
+use pt_host::{Errno, OpenFlags};
+use pt_iface::{Answer, FsOptions, OpenOptions};
 use pt_session::Negotiated;
 
 /// The bits that the access mode takes, the `O_ACCMODE` of `open(2)`.
@@ -15,6 +16,11 @@ const O_ACCMODE: u32 = 3;
 /// Entries are read with their attributes, where the guest's kernel sees fit.
 const READDIRPLUS: FsOptions = FsOptions(
     FsOptions::DO_READDIRPLUS.0 | FsOptions::READDIRPLUS_AUTO.0,
+);
+
+/// What access control lists take.
+const LISTS: FsOptions = FsOptions(
+    FsOptions::POSIX_ACL.0 | FsOptions::DONT_MASK.0 | FsOptions::SETXATTR_EXT.0,
 );
 
 fn without_bits(flags: u32, bits: u32) -> u32
@@ -128,15 +134,23 @@ fn keeps_writes(config: &Config, capable: FsOptions) -> bool
     config.writeback && capable.includes(FsOptions::WRITEBACK_CACHE)
 }
 
-/// What is agreed on with a guest that offers this.
+/// Whether access control lists or security contexts are configured, and the guest does not offer what they take.
+fn is_short_of(config: &Config, capable: FsOptions) -> bool
+    ensures { result ≡ is_short_of config.now capable }
+{
+    config.posix_acl && !capable.includes(LISTS)
+        || config.security_label && !capable.includes(FsOptions::SECURITY_CTX)
+}
+
+/// What is agreed on with a guest that offers this, also with one that is refused then.
 pub fn agreed_with(config: &Config, capable: FsOptions) -> Negotiated
     ensures { result ≡ agreed_with config.now capable }
 {
     Negotiated {
         writeback: keeps_writes(config, capable),
         announce_submounts: config.announce_submounts && capable.includes(FsOptions::SUBMOUNTS),
-        posix_acl: false,
-        sup_group: capable.includes(FsOptions::CREATE_SUPP_GROUP),
+        posix_acl: config.posix_acl && capable.includes(LISTS),
+        sup_group: capable.includes(FsOptions::CREATE_SUPP_GROUP) && !is_short_of(config, capable),
     }
 }
 
@@ -147,9 +161,9 @@ fn bits_if(granted: bool, options: FsOptions) -> u32
     if granted { options.0 } else { 0 }
 }
 
-/// What a guest that offers this is granted at the beginning of its session.
+/// What a guest that offers this is granted at the beginning of its session, where it is not refused.
 #[tactic(auto, using(crate::proofs::Granting::joined))]
-pub fn init_options(config: &Config, capable: FsOptions) -> FsOptions
+fn init_options(config: &Config, capable: FsOptions) -> FsOptions
     ensures { result ≡ init_options config.now capable }
 {
     let killpriv = config.killpriv_v2 && capable.includes(FsOptions::HANDLE_KILLPRIV_V2);
@@ -157,6 +171,19 @@ pub fn init_options(config: &Config, capable: FsOptions) -> FsOptions
         bits_if(config.readdirplus, READDIRPLUS)
             | bits_if(keeps_writes(config, capable), FsOptions::WRITEBACK_CACHE)
             | bits_if(killpriv, FsOptions::HANDLE_KILLPRIV_V2)
+            | bits_if(config.posix_acl, LISTS)
+            | bits_if(config.security_label, FsOptions::SECURITY_CTX)
             | bits_if(config.allow_mmap, FsOptions::DIRECT_IO_ALLOW_MMAP),
     )
+}
+
+/// How `init` is answered: a guest that does not offer what the configuration asks for is refused.
+pub fn init_answer(config: &Config, capable: FsOptions) -> Answer
+    ensures { result ≡ init_answer config.now capable }
+{
+    if is_short_of(config, capable) {
+        Answer::Refused(Errno::EPROTO)
+    } else {
+        Answer::Inited(init_options(config, capable))
+    }
 }

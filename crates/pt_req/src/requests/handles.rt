@@ -17,7 +17,7 @@ use pt_iface::Answer;
 pub fn open<'a>(
     told: &'a [Heard],
     at: &mut usize,
-    plan: &Plan,
+    plan: &'a Plan,
     seat: &HostSeat,
     session: BegunSession,
     inode: u64,
@@ -35,7 +35,7 @@ pub fn open<'a>(
 pub fn opendir<'a>(
     told: &'a [Heard],
     at: &mut usize,
-    plan: &Plan,
+    plan: &'a Plan,
     seat: &HostSeat,
     session: BegunSession,
     inode: u64,

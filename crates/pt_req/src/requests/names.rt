@@ -3,15 +3,14 @@
 ghost use Rattle.std.specs.Prelude.{◌≡◌};
 ghost use Rattle.pt_frame.specs.Machine.Walk.{Reads};
 ghost use Rattle.pt_frame.specs.Tree.{Gives};
-ghost use Rattle.pt_req.specs.Creating.{asked_of};
-ghost use Rattle.pt_req.specs.Requests.{lookup, forget, batch_forget, create};
+ghost use Rattle.pt_req.specs.Requests.{lookup, forget, batch_forget};
 
 use crate::begun::BegunSession;
-use crate::parts::{FileAsked, create_options, do_lookup, file_of, make_file, named};
+use crate::parts::{do_lookup, named};
 use crate::plan::Plan;
-use crate::steps::{forget_all, forget_one, resolve};
+use crate::steps::{forget_all, forget_one};
 use pt_frame::{Asked, Heard};
-use pt_host::{Bytes, HostSeat};
+use pt_host::Bytes;
 use pt_iface::{Answer, ForgetList};
 
 /// A name in a directory becomes an entry.
@@ -55,23 +54,4 @@ pub fn batch_forget<'a>(
 {
     forget_all(told, at, list)?;
     Ok(Answer::NoReply)
-}
-
-/// A file is made and opened.
-pub fn create<'a>(
-    told: &'a [Heard],
-    at: &mut usize,
-    plan: &Plan,
-    seat: &HostSeat,
-    session: BegunSession,
-    asked: FileAsked<'a>,
-) -> Asked<'a, Answer>
-    ensures { Reads told.now at.old at.new result (create plan.now seat.now (asked_of asked.entry) session) Gives }
-{
-    let options = create_options(&plan.config);
-    named(asked.name)?;
-    let directory = resolve(told, at, asked.parent)?;
-    let dir = file_of(&directory.form)?;
-    let file = make_file(told, at, plan, seat, session, asked, dir)?;
-    Ok(Answer::Created(file.entry, file.handle, options))
 }

@@ -6,7 +6,7 @@ ghost use Rattle.pt_frame.specs.Tree.{Gives};
 ghost use Rattle.pt_req.specs.Requests.{init, destroy, root};
 
 use crate::begun::BegunSession;
-use crate::parts::{agreed_with, init_options, root_open};
+use crate::parts::{agreed_with, init_answer, root_open};
 use crate::plan::Plan;
 use crate::steps::clear;
 use pt_frame::{Asked, Heard};
@@ -23,14 +23,14 @@ pub fn init<'a>(
     ensures { Reads told.now at.old at.new result (init plan.now capable) Gives }
 {
     let agreed = agreed_with(&plan.config, capable);
-    let options = init_options(&plan.config, capable);
+    let answer = init_answer(&plan.config, capable);
     let era = clear(told, at)?;
     let session = BegunSession {
         era,
         agreed: Negotiated::NONE,
     };
     root_open(told, at, plan, session, Some(agreed))?;
-    Ok(Answer::Inited(options))
+    Ok(answer)
 }
 
 /// The session ends, and one without a root begins.

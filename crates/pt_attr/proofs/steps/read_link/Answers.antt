@@ -16,4 +16,5 @@ returns-in-Host-Ok-Bytes-clause-reads c = λ next.
     (in_place _ _ _ next _ c.in-Host-Ok-Bytes.field-0-0-0 c.in_ok-reply.ensures.place (search rules))
 
 pub returns-in-Host-Ok-Bytes-clause-has : goal.returns-in-Host-Ok-Bytes-clause-has
-returns-in-Host-Ok-Bytes-clause-has c = has_bytes _ _ c.in-Host-Ok-Bytes.field-0-0-0 c.in_ok-reply.ensures.place (search rules)
+returns-in-Host-Ok-Bytes-clause-has c =
+    has_bytes _ _ c.in-Host-Ok-Bytes.field-0-0-0 c.in_ok-reply.ensures.place (search rules)

@@ -29,7 +29,8 @@ returns-else-are_zeros-clause-none c entry rest begins =
     in
     let zeros =
     subst
-    (λ (n : ℕ). list_all (λ byte. byte == 0) (take (n - (19 + length entry.name)) (drop (19 + length entry.name) bytes)) ≡ true)
+    (λ (n : ℕ). list_all (λ byte. byte == 0)
+    (take (n - (19 + length entry.name)) (drop (19 + length entry.name) bytes)) ≡ true)
     (sym size) (zeros_inside bytes entry rest begins)
     in
     let there =

@@ -76,7 +76,7 @@ pub returns-in-Access : goal.returns-in-Access
 returns-in-Access c = rw c.in-Access.is (c.access.ensures c.args.session)
 
 pub returns-in-ReadDir : goal.returns-in-ReadDir
-returns-in-ReadDir c = rw c.in-ReadDir.is (c.unserved-in-ReadDir.ensures _ _ c.args.session)
+returns-in-ReadDir c = rw c.in-ReadDir.is c.readdir.ensures
 
 pub returns-in-Flush : goal.returns-in-Flush
 returns-in-Flush c = rw c.in-Flush.is (c.flush.ensures c.args.session)
@@ -100,16 +100,16 @@ pub returns-in-CopyFileRange : goal.returns-in-CopyFileRange
 returns-in-CopyFileRange c = rw c.in-CopyFileRange.is (c.copyfilerange.ensures c.args.session)
 
 pub returns-in-SetXattr : goal.returns-in-SetXattr
-returns-in-SetXattr c = rw c.in-SetXattr.is (c.unserved-in-SetXattr.ensures _ _ c.args.session)
+returns-in-SetXattr c = rw c.in-SetXattr.is c.setxattr.ensures
 
 pub returns-in-GetXattr : goal.returns-in-GetXattr
-returns-in-GetXattr c = rw c.in-GetXattr.is (c.unserved-in-GetXattr.ensures _ _ c.args.session)
+returns-in-GetXattr c = rw c.in-GetXattr.is c.getxattr.ensures
 
 pub returns-in-ListXattr : goal.returns-in-ListXattr
-returns-in-ListXattr c = rw c.in-ListXattr.is (c.unserved-in-ListXattr.ensures _ _ c.args.session)
+returns-in-ListXattr c = rw c.in-ListXattr.is c.listxattr.ensures
 
 pub returns-in-RemoveXattr : goal.returns-in-RemoveXattr
-returns-in-RemoveXattr c = rw c.in-RemoveXattr.is (c.unserved-in-RemoveXattr.ensures _ _ c.args.session)
+returns-in-RemoveXattr c = rw c.in-RemoveXattr.is c.removexattr.ensures
 
 pub returns-in-Other : goal.returns-in-Other
 returns-in-Other c = rw c.in-Other.is (c.unserved-in-Other.ensures _ _ c.args.session)

@@ -1,7 +1,7 @@
 use Rattle.std.proofs.Common.{ap, sym}
 use Rattle.pt_frame.specs.Machine.Walk.{deed_in}
 use Rattle.pt_frame.proofs.Ahead.{wants_deed, opens_deed, gives_else, moves_else, refuses_else, bares_else}
-use Rattle.pt_frame.proofs.Ahead.{brackets_else, shuts_else}
+use Rattle.pt_frame.proofs.Ahead.{brackets_else, shuts_else, makes_else, ends_else}
 use Rattle.pt_frame.proofs.machine.framed.wanted.Goals as goal
 
 pub returns-in-Wants : goal.returns-in-Wants
@@ -27,3 +27,9 @@ returns-in-Brackets c = λ told tree is. ap deed_in (sym (brackets_else told tre
 
 pub returns-in-Shuts : goal.returns-in-Shuts
 returns-in-Shuts c = λ told tree is. ap deed_in (sym (shuts_else told tree _ (rw c.in-Shuts.is at is)))
+
+pub returns-in-Makes : goal.returns-in-Makes
+returns-in-Makes c = λ told tree is. ap deed_in (sym (makes_else told tree _ (rw c.in-Makes.is at is)))
+
+pub returns-in-GivesUp : goal.returns-in-GivesUp
+returns-in-GivesUp c = λ told tree is. ap deed_in (sym (ends_else told tree (rw c.in-GivesUp.is at is)))

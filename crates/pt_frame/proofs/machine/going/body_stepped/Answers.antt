@@ -1,7 +1,5 @@
 use Rattle.std.proofs.Common.{List, subst}
 use Rattle.pt_frame.specs.Machine.Enters.{Enters}
-use Rattle.pt_frame.specs.Machine.Walk.{walk}
-use Rattle.pt_frame.specs.Tree.{framed}
 use Rattle.pt_frame.specs.declared.told.Heard.{Heard}
 use Rattle.pt_frame.proofs.Entering.{Goes, Hears, goes_on, hears}
 use Rattle.pt_frame.proofs.machine.going.body_stepped.Goals as goal
@@ -32,8 +30,8 @@ returns-in-Some-clause-left g c =
     let tree = g.B.Body.tree body c.args.plan.now seat in
     let acts = g.B.Body.acts body in
     let held = c.hear_of.new.holds in
-    let enters = subst (λ (x : List Heard). Enters seat (framed seat (walk tree x) held c.args.marks.now) tree acts held
-    x c.entered.result c.entered.new.told c.entered.new.marks) c.push.ensures c.entered.ensures in
+    let enters = subst (λ (x : List Heard). Enters seat tree acts held x c.args.marks.now c.entered.result
+    c.entered.new.told c.entered.new.marks) c.push.ensures c.entered.ensures in
     rw c.go_to-in-Some.ensures (goes_on seat tree acts c.args.holds.now held c.args.told.now c.entered.new.told
     c.args.marks.now c.entered.new.marks c.args.reply c.in-Some.closings c.in-Some.may c.entered.result
     (g.met.B.Body.within body c.args.plan.now seat) c.in-Some.ensures.some enters).left
@@ -45,8 +43,8 @@ returns-in-Some-clause-fewer g c =
     let tree = g.B.Body.tree body c.args.plan.now seat in
     let acts = g.B.Body.acts body in
     let held = c.hear_of.new.holds in
-    let enters = subst (λ (x : List Heard). Enters seat (framed seat (walk tree x) held c.args.marks.now) tree acts held
-    x c.entered.result c.entered.new.told c.entered.new.marks) c.push.ensures c.entered.ensures in
+    let enters = subst (λ (x : List Heard). Enters seat tree acts held x c.args.marks.now c.entered.result
+    c.entered.new.told c.entered.new.marks) c.push.ensures c.entered.ensures in
     rw c.go_to-in-Some.ensures (goes_on seat tree acts c.args.holds.now held c.args.told.now c.entered.new.told
     c.args.marks.now c.entered.new.marks c.args.reply c.in-Some.closings c.in-Some.may c.entered.result
     (g.met.B.Body.within body c.args.plan.now seat) c.in-Some.ensures.some enters).fewer
@@ -58,8 +56,8 @@ returns-in-Some-clause-rows g c =
     let tree = g.B.Body.tree body c.args.plan.now seat in
     let acts = g.B.Body.acts body in
     let held = c.hear_of.new.holds in
-    let enters = subst (λ (x : List Heard). Enters seat (framed seat (walk tree x) held c.args.marks.now) tree acts held
-    x c.entered.result c.entered.new.told c.entered.new.marks) c.push.ensures c.entered.ensures in
+    let enters = subst (λ (x : List Heard). Enters seat tree acts held x c.args.marks.now c.entered.result
+    c.entered.new.told c.entered.new.marks) c.push.ensures c.entered.ensures in
     rw c.go_to-in-Some.ensures (goes_on seat tree acts c.args.holds.now held c.args.told.now c.entered.new.told
     c.args.marks.now c.entered.new.marks c.args.reply c.in-Some.closings c.in-Some.may c.entered.result
     (g.met.B.Body.within body c.args.plan.now seat) c.in-Some.ensures.some enters).rows

@@ -1,5 +1,5 @@
 use Rattle.pt_frame.proofs.Ahead.{wants_ahead, opens_ahead, gives_ahead, moves_ahead, refuses_ahead, bares_ahead}
-use Rattle.pt_frame.proofs.Ahead.{brackets_ahead, shuts_ahead}
+use Rattle.pt_frame.proofs.Ahead.{brackets_ahead, shuts_ahead, makes_ahead, ends_ahead}
 use Rattle.pt_frame.proofs.machine.going.comes_next.Goals as goal
 
 pub returns-in-Wants : goal.returns-in-Wants
@@ -25,3 +25,9 @@ returns-in-Brackets c = λ told tree is. brackets_ahead told tree (rw c.in-Brack
 
 pub returns-in-Shuts : goal.returns-in-Shuts
 returns-in-Shuts c = λ told tree is. shuts_ahead told tree _ (rw c.in-Shuts.is at is)
+
+pub returns-in-Makes : goal.returns-in-Makes
+returns-in-Makes c = λ told tree is. makes_ahead told tree _ (rw c.in-Makes.is at is)
+
+pub returns-in-GivesUp : goal.returns-in-GivesUp
+returns-in-GivesUp c = λ told tree is. ends_ahead told tree (rw c.in-GivesUp.is at is)

@@ -2,7 +2,7 @@ use Rattle.std.proofs.Common.{List, arith, subst}
 use Rattle.pt_frame.specs.Machine.Room.{most_holds, most_rows, most_told}
 use Rattle.pt_frame.specs.Machine.Walk.{IsStop, walk}
 use Rattle.pt_frame.specs.declared.told.Heard.{Heard}
-use Rattle.pt_frame.proofs.Keeping.{stops_room, walk_keeps}
+use Rattle.pt_frame.proofs.Keeping.{sooner, stops_room, walk_keeps}
 use Rattle.pt_frame.proofs.machine.going.hear_of.Goals as goal
 
 pub hear-requires : goal.hear-requires
@@ -14,5 +14,6 @@ hear-requires g c =
     c.run-stop.ensures in
     let room = stops_room told (walk tree told) c.run-stop.result _ _ _ _ is
     (walk_keeps tree told most_told (g.B.Body.acts body) most_holds most_rows
-    (g.met.B.Body.within body c.args.plan.now c.args.seat.now)) in
+    (sooner tree most_told (g.B.Body.acts body) most_holds most_rows
+    (g.met.B.Body.within body c.args.plan.now c.args.seat.now))) in
     omega (arith, room, c.requires)

@@ -4,7 +4,7 @@ use Rattle.std.proofs.lemmas.Bool.{eqb-true, eqb-false}
 use Rattle.std.proofs.lemmas.Grind.{common_steps}
 use Rattle.std.proofs.lemmas.List.{length-drop}
 use Rattle.pt_handles.specs.Record.{Dirent, BeginsWith}
-use Rattle.pt_handles.specs.Reading.{dirents_in, seen_dirent}
+use Rattle.pt_handles.specs.Dirents.{dirents_in, seen_dirent}
 use Rattle.pt_handles.specs.Listed.{dirent_of}
 use Rattle.pt_handles.proofs.Listings.{next_begins, next_view, none_left}
 use Rattle.pt_handles.proofs.read_dir.ReadDirDirectoryIterator.next.Goals as goal

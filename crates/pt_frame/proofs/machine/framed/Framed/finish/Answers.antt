@@ -7,7 +7,8 @@ use Rattle.pt_frame.proofs.machine.framed.Framed.finish.Goals as goal
 pub returns-clause-left : goal.returns-clause-left
 returns-clause-left g c = λ plan seat.
     let at = c.self.inside in
-    rw (← c.self.view_is) (ends_over seat at.taken at.closings at.mode (walk (g.B.Body.tree at.body plan seat) at.told) at.holds
+    rw (← c.self.view_is)
+    (ends_over seat at.taken at.closings at.mode (walk (g.B.Body.tree at.body plan seat) at.told) at.holds
     at.marks c.self.invariant.1 (rw (← c.self.view_is) at c.requires) ∙ ap End (sym c.end_of.ensures))
 
 pub returns-clause-lost : goal.returns-clause-lost

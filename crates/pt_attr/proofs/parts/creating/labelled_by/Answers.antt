@@ -1,0 +1,4 @@
+use Rattle.pt_attr.proofs.parts.creating.labelled_by.Goals as goal
+
+pub returns-in-Ok : goal.returns-in-Ok
+returns-in-Ok c = λ next. rw c.in-Ok.is (c.kept_with.ensures next)

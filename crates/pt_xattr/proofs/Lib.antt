@@ -1,0 +1,5 @@
+pub mod Stepping
+pub mod Keeping
+pub mod Walking
+mod Lists
+mod Entries
