@@ -13,7 +13,7 @@ use Rattle.pt_host.specs.declared.reply.HostReply.TheVariants as host
 use Rattle.pt_host.specs.declared.seat.HostSeat.{HostSeat}
 use Rattle.pt_host.specs.declared.ids.ObjIds.{ObjIds}
 use Rattle.pt_creds.specs.Identity.{Credentials}
-use Rattle.pt_session.specs.declared.reply.Resolved.{Resolved}
+use Rattle.pt_tables.specs.declared.reply.Resolved.{Resolved}
 use Rattle.pt_iface.specs.declared.answer.Answer.{Answer}
 use Rattle.pt_iface.specs.declared.answer.Answer.TheVariants as answer
 use Rattle.pt_iface.specs.declared.flags.SetattrValid.{SetattrValid}

@@ -22,7 +22,7 @@ use Rattle.pt_req.specs.Parts.{file_of, open_row}
 use Rattle.pt_req.specs.Steps.{Part, ◌>>=◌, ◌>>◌, pin_handle, resolve}
 use Rattle.pt_req.specs.declared.begun.BegunSession.{BegunSession}
 use Rattle.pt_req.specs.declared.plan.Plan.{Plan}
-use Rattle.pt_session.specs.declared.reply.Resolved.{Resolved}
+use Rattle.pt_tables.specs.declared.reply.Resolved.{Resolved}
 use Rattle.pt_attr.specs.Parts.{tell_attr}
 use Rattle.pt_attr.specs.Steps.{do_call}
 use Rattle.pt_attr.specs.declared.parts.setting.Target.{Target}

@@ -11,9 +11,9 @@ use Rattle.pt_host.specs.declared.stat.Stat.{Stat}
 use Rattle.pt_host.specs.declared.op.KeptHostOp.TheVariants as call
 use Rattle.pt_host.specs.declared.reply.HostReply.TheVariants as host
 use Rattle.pt_host.specs.declared.reply.HostValue.TheVariants as value
-use Rattle.pt_session.specs.declared.event.KeptEvent.TheVariants as change
-use Rattle.pt_session.specs.declared.reply.EventReply.TheVariants as event
-use Rattle.pt_session.specs.declared.reply.EventRefusal.TheVariants as refused
+use Rattle.pt_tables.specs.declared.event.KeptEvent.TheVariants as change
+use Rattle.pt_tables.specs.declared.reply.EventReply.TheVariants as event
+use Rattle.pt_tables.specs.declared.reply.EventRefusal.TheVariants as refused
 use Rattle.pt_iface.specs.declared.request.Context.{Context}
 use Rattle.pt_iface.specs.declared.request.Extensions.{Extensions}
 use Rattle.pt_iface.specs.declared.request.Request.TheVariants as request

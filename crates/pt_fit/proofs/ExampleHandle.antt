@@ -3,8 +3,8 @@
 use Rattle.std.proofs.Common.{inl, ℕ, [], ◌∷◌, refl, arith}
 use Rattle.pt_host.specs.Words.{is}
 use Rattle.pt_host.specs.declared.ids.Fd.{Fd}
-use Rattle.pt_session.specs.declared.event.KeptEvent.TheVariants as change
-use Rattle.pt_session.specs.declared.reply.EventReply.TheVariants as event
+use Rattle.pt_tables.specs.declared.event.KeptEvent.TheVariants as change
+use Rattle.pt_tables.specs.declared.reply.EventReply.TheVariants as event
 use Rattle.pt_iface.specs.declared.answer.Answer.TheVariants as answer
 use Rattle.pt_iface.specs.declared.flags.OpenOptions.{OpenOptions}
 use Rattle.pt_frame.specs.Deed.{Changes, Step}

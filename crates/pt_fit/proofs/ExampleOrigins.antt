@@ -12,7 +12,7 @@ use Rattle.pt_host.specs.declared.stat.Stat.{Stat}
 use Rattle.pt_host.specs.declared.op.KeptHostOp.TheVariants as call
 use Rattle.pt_host.specs.declared.reply.HostReply.TheVariants as host
 use Rattle.pt_host.specs.declared.reply.HostValue.TheVariants as value
-use Rattle.pt_session.specs.Tables.{empty_tables}
+use Rattle.pt_tables.specs.Tables.{empty_tables}
 use Rattle.pt_frame.specs.Deed.{Calls}
 use Rattle.pt_req.specs.Parts.{by_path}
 use Rattle.pt_frame.specs.declared.act.ActReply.TheVariants.{Host}

@@ -11,17 +11,17 @@ use Rattle.pt_host.specs.declared.op.KeptHostOp.TheVariants as call
 use Rattle.pt_host.specs.declared.reply.HostReply.TheVariants as host
 use Rattle.pt_host.specs.declared.reply.HostValue.{HostValue}
 use Rattle.pt_host.specs.declared.seat.HostSeat.{HostSeat}
-use Rattle.pt_session.specs.Change.{Change, HoldsList}
-use Rattle.pt_session.specs.Tables.{Tables, HasNumber, Agree, empty_tables}
-use Rattle.pt_session.specs.Happens.{Happens}
-use Rattle.pt_session.specs.Rows.{NoRow}
-use Rattle.pt_session.specs.declared.form.Negotiated.{Negotiated}
-use Rattle.pt_session.specs.declared.form.RowForm.TheVariants.{File}
-use Rattle.pt_session.specs.declared.event.KeptEvent.TheVariants as change
-use Rattle.pt_session.specs.declared.reply.EventReply.{EventReply}
-use Rattle.pt_session.specs.declared.reply.EventReply.TheVariants as event
-use Rattle.pt_session.specs.declared.reply.EventRefusal.TheVariants.{NotLive}
-use Rattle.pt_session.proofs.Cases.{Case, cases}
+use Rattle.pt_tables.specs.Change.{Change, HoldsList}
+use Rattle.pt_tables.specs.Tables.{Tables, HasNumber, Agree, empty_tables}
+use Rattle.pt_tables.specs.Happens.{Happens}
+use Rattle.pt_tables.specs.Rows.{NoRow}
+use Rattle.pt_tables.specs.declared.form.Negotiated.{Negotiated}
+use Rattle.pt_tables.specs.declared.form.RowForm.TheVariants.{File}
+use Rattle.pt_tables.specs.declared.event.KeptEvent.TheVariants as change
+use Rattle.pt_tables.specs.declared.reply.EventReply.{EventReply}
+use Rattle.pt_tables.specs.declared.reply.EventReply.TheVariants as event
+use Rattle.pt_tables.specs.declared.reply.EventRefusal.TheVariants.{NotLive}
+use Rattle.pt_tables.proofs.Cases.{Case, cases}
 use Rattle.pt_iface.specs.declared.answer.Answer.TheVariants as answer
 use Rattle.pt_iface.specs.declared.flags.SetattrValid.{SetattrValid}
 use Rattle.pt_iface.specs.declared.request.Context.{Context}
@@ -50,7 +50,7 @@ use Rattle.pt_req.specs.Parts.{by_path, file_of, handled, named, numbered, looke
 use Rattle.pt_job.specs.Pattern.{tree_of}
 use Rattle.pt_req.specs.Requests.{lookup, open_dir, open_file}
 use Rattle.pt_req.specs.Steps.{session_of, begin, resolve, open_at, stat, began_in, ok_in, resolved_in}
-use Rattle.pt_session.specs.declared.reply.Resolved.{Resolved}
+use Rattle.pt_tables.specs.declared.reply.Resolved.{Resolved}
 use Rattle.pt_req.specs.declared.begun.BegunSession.{BegunSession}
 use Rattle.pt_req.specs.declared.plan.Plan.{Plan}
 use Rattle.pt_job.specs.Pattern.{grammar_of}

@@ -11,14 +11,14 @@ use Rattle.pt_host.specs.Flags.{includes, o_trunc}
 use Rattle.pt_host.specs.declared.reply.HostReply.TheVariants as host
 use Rattle.pt_host.specs.declared.seat.HostSeat.{HostSeat}
 use Rattle.pt_host.specs.declared.stat.Stat.{Stat}
-use Rattle.pt_session.proofs.Cases.{cases}
-use Rattle.pt_session.specs.declared.event.KeptEvent.TheVariants as change
-use Rattle.pt_session.specs.declared.form.Negotiated.{Negotiated}
-use Rattle.pt_session.specs.declared.form.RowForm.{RowForm}
-use Rattle.pt_session.specs.declared.form.RowForm.TheVariants.{File}
-use Rattle.pt_session.specs.declared.reply.EventRefusal.{EventRefusal}
-use Rattle.pt_session.specs.declared.reply.EventRefusal.TheVariants as refused
-use Rattle.pt_session.specs.declared.reply.EventReply.TheVariants as event
+use Rattle.pt_tables.proofs.Cases.{cases}
+use Rattle.pt_tables.specs.declared.event.KeptEvent.TheVariants as change
+use Rattle.pt_tables.specs.declared.form.Negotiated.{Negotiated}
+use Rattle.pt_tables.specs.declared.form.RowForm.{RowForm}
+use Rattle.pt_tables.specs.declared.form.RowForm.TheVariants.{File}
+use Rattle.pt_tables.specs.declared.reply.EventRefusal.{EventRefusal}
+use Rattle.pt_tables.specs.declared.reply.EventRefusal.TheVariants as refused
+use Rattle.pt_tables.specs.declared.reply.EventReply.TheVariants as event
 use Rattle.pt_iface.specs.declared.answer.Answer.{Answer}
 use Rattle.pt_iface.specs.declared.answer.Answer.TheVariants as answer
 use Rattle.pt_frame.specs.Deed.{Calls, Changes, Deed, IsStepOf, Step}
@@ -39,7 +39,7 @@ use Rattle.pt_req.specs.Steps.{begin, clear, draw_handle, draw_node, insert, ins
 use Rattle.pt_req.specs.Steps.{claimed_in, claim_of, new_row_of, new_root_of, new_handle_of}
 use Rattle.pt_req.specs.Steps.{take_fd, began_in, cleared_in, done_in, drawn_in, fd_in, inserted_in, numbered_in}
 use Rattle.pt_req.specs.Steps.{gone_in, ok_in, resolved_in, stat_in, taken_in}
-use Rattle.pt_session.specs.declared.reply.Resolved.{Resolved}
+use Rattle.pt_tables.specs.declared.reply.Resolved.{Resolved}
 use Rattle.pt_req.specs.declared.begun.BegunSession.{BegunSession}
 use Rattle.pt_req.specs.declared.parts.looked.Looked.{Looked}
 use Rattle.pt_req.specs.declared.plan.Plan.{Plan}

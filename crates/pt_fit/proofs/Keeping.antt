@@ -22,9 +22,9 @@ use Rattle.pt_maps.specs.MappedNames.{client_name}
 use Rattle.pt_maps.specs.declared.xattr_map.AppliedRule.{AppliedRule}
 use Rattle.pt_maps.specs.declared.xattr_map.AppliedRule.TheVariants as applied
 use Rattle.pt_maps.specs.declared.xattr_rule.XattrRule.{XattrRule}
-use Rattle.pt_session.specs.Tables.{nothing_agreed}
-use Rattle.pt_session.specs.declared.event.KeptEvent.TheVariants as change
-use Rattle.pt_session.specs.declared.form.Negotiated.{Negotiated}
+use Rattle.pt_tables.specs.Tables.{nothing_agreed}
+use Rattle.pt_tables.specs.declared.event.KeptEvent.TheVariants as change
+use Rattle.pt_tables.specs.declared.form.Negotiated.{Negotiated}
 use Rattle.pt_iface.specs.declared.answer.Answer.{Answer}
 use Rattle.pt_iface.specs.declared.answer.Answer.TheVariants as answer
 use Rattle.pt_iface.specs.declared.answer.GetxattrReply.TheVariants as xattr
@@ -57,7 +57,7 @@ use Rattle.pt_req.specs.Parts.{by_path, file_of, open_inode}
 use Rattle.pt_req.specs.Requests.{batch_forget, init_answer, open_file, release, unserved}
 use Rattle.pt_req.specs.Steps.{begin, made_in, make_at, ok_in, or_refused, pin_handle, pinned_in, refused_in}
 use Rattle.pt_req.specs.Steps.{session_of, tried_in}
-use Rattle.pt_session.specs.declared.reply.Resolved.{Resolved}
+use Rattle.pt_tables.specs.declared.reply.Resolved.{Resolved}
 use Rattle.pt_req.specs.declared.begun.BegunSession.{BegunSession}
 use Rattle.pt_req.specs.declared.replies.Made.{Made}
 use Rattle.pt_req.specs.declared.replies.Made.TheVariants.{New, Old}

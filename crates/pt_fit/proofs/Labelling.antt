@@ -17,7 +17,7 @@ use Rattle.pt_maps.specs.MappedNames.{client_name}
 use Rattle.pt_maps.specs.declared.xattr_map.AppliedRule.{AppliedRule}
 use Rattle.pt_maps.specs.declared.xattr_map.AppliedRule.TheVariants as applied
 use Rattle.pt_maps.specs.declared.xattr_rule.XattrRule.{XattrRule}
-use Rattle.pt_session.specs.declared.form.Negotiated.{Negotiated}
+use Rattle.pt_tables.specs.declared.form.Negotiated.{Negotiated}
 use Rattle.pt_req.specs.Attributes.{Label, by_rule, by_rules, host_label, host_name, is_blocked, refused_by_rule}
 use Rattle.pt_req.specs.Attributes.{refused_by_rules, refused_label, refused_name}
 use Rattle.pt_req.specs.declared.plan.Plan.{Plan}

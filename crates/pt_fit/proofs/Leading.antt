@@ -7,12 +7,12 @@ use Rattle.pt_host.specs.Words.{Each}
 use Rattle.pt_host.specs.declared.ids.Errno.{Errno}
 use Rattle.pt_host.specs.declared.op.KeptHostOp.TheVariants as call
 use Rattle.pt_host.specs.declared.seat.HostSeat.{HostSeat}
-use Rattle.pt_session.specs.Change.{Change}
-use Rattle.pt_session.specs.declared.event.KeptEvent.TheVariants as change
-use Rattle.pt_session.specs.declared.reply.EventReply.{EventReply}
-use Rattle.pt_session.specs.declared.reply.EventReply.TheVariants as event
-use Rattle.pt_session.specs.declared.reply.EventRefusal.{EventRefusal}
-use Rattle.pt_session.specs.declared.reply.EventRefusal.TheVariants as refused
+use Rattle.pt_tables.specs.Change.{Change}
+use Rattle.pt_tables.specs.declared.event.KeptEvent.TheVariants as change
+use Rattle.pt_tables.specs.declared.reply.EventReply.{EventReply}
+use Rattle.pt_tables.specs.declared.reply.EventReply.TheVariants as event
+use Rattle.pt_tables.specs.declared.reply.EventRefusal.{EventRefusal}
+use Rattle.pt_tables.specs.declared.reply.EventRefusal.TheVariants as refused
 use Rattle.pt_host.specs.declared.reply.HostReply.TheVariants as host
 use Rattle.pt_iface.specs.declared.answer.Answer.{Answer}
 use Rattle.pt_iface.specs.declared.answer.Answer.TheVariants as answer

@@ -5,13 +5,13 @@ use Rattle.pt_host.specs.declared.stat.Stat.{Stat}
 use Rattle.pt_host.specs.declared.op.KeptHostOp.TheVariants as call
 use Rattle.pt_host.specs.declared.reply.HostReply.TheVariants as host
 use Rattle.pt_host.specs.declared.reply.HostValue.TheVariants as value
-use Rattle.pt_session.specs.Change.{Change}
-use Rattle.pt_session.specs.declared.form.RowForm.TheVariants.{File}
-use Rattle.pt_session.specs.declared.form.Negotiated.{Negotiated}
-use Rattle.pt_session.specs.declared.event.KeptEvent.TheVariants as change
-use Rattle.pt_session.specs.declared.reply.GivenNumber.{GivenNumber}
-use Rattle.pt_session.specs.declared.reply.Resolved.{Resolved}
-use Rattle.pt_session.specs.declared.reply.EventReply.TheVariants as event
+use Rattle.pt_tables.specs.Change.{Change}
+use Rattle.pt_tables.specs.declared.form.RowForm.TheVariants.{File}
+use Rattle.pt_tables.specs.declared.form.Negotiated.{Negotiated}
+use Rattle.pt_tables.specs.declared.event.KeptEvent.TheVariants as change
+use Rattle.pt_tables.specs.declared.reply.GivenNumber.{GivenNumber}
+use Rattle.pt_tables.specs.declared.reply.Resolved.{Resolved}
+use Rattle.pt_tables.specs.declared.reply.EventReply.TheVariants as event
 use Rattle.pt_iface.specs.declared.entry.Entry.{Entry}
 use Rattle.pt_frame.specs.Deed.{Calls, Changes, Step}
 use Rattle.pt_req.specs.Entries.{entry_of}

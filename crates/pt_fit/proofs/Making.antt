@@ -15,9 +15,9 @@ use Rattle.pt_host.specs.declared.seat.HostSeat.{HostSeat}
 use Rattle.pt_host.specs.declared.stat.Stat.{Stat}
 use Rattle.pt_creds.specs.Identity.{Credentials}
 use Rattle.pt_creds.specs.Steps.{cred_steps}
-use Rattle.pt_session.specs.declared.event.KeptEvent.TheVariants as change
-use Rattle.pt_session.specs.declared.form.Negotiated.{Negotiated}
-use Rattle.pt_session.specs.declared.reply.EventReply.TheVariants as event
+use Rattle.pt_tables.specs.declared.event.KeptEvent.TheVariants as change
+use Rattle.pt_tables.specs.declared.form.Negotiated.{Negotiated}
+use Rattle.pt_tables.specs.declared.reply.EventReply.TheVariants as event
 use Rattle.pt_iface.specs.declared.answer.Answer.{Answer}
 use Rattle.pt_iface.specs.declared.answer.Answer.TheVariants as answer
 use Rattle.pt_iface.specs.declared.entry.Entry.{Entry}
@@ -38,7 +38,7 @@ use Rattle.pt_req.specs.Options.{making_flags}
 use Rattle.pt_req.specs.Parts.{file_of, handled, look_up, named, open_num}
 use Rattle.pt_req.specs.Steps.{begin, began_in, is_there, made_in, make_at}
 use Rattle.pt_req.specs.Steps.{resolve, resolved_in, session_of, stat_in}
-use Rattle.pt_session.specs.declared.reply.Resolved.{Resolved}
+use Rattle.pt_tables.specs.declared.reply.Resolved.{Resolved}
 use Rattle.pt_req.specs.declared.begun.BegunSession.{BegunSession}
 use Rattle.pt_req.specs.declared.replies.Made.{Made}
 use Rattle.pt_req.specs.declared.replies.Made.TheVariants.{Old}

@@ -12,9 +12,9 @@ use Rattle.pt_host.specs.declared.reply.HostValue.TheVariants as value
 use Rattle.pt_host.specs.declared.seat.HostSeat.{HostSeat}
 use Rattle.pt_creds.specs.Identity.{Credentials}
 use Rattle.pt_creds.specs.Steps.{cred_steps}
-use Rattle.pt_session.specs.declared.event.KeptEvent.TheVariants as change
-use Rattle.pt_session.specs.declared.form.Negotiated.{Negotiated}
-use Rattle.pt_session.specs.declared.reply.EventReply.TheVariants as event
+use Rattle.pt_tables.specs.declared.event.KeptEvent.TheVariants as change
+use Rattle.pt_tables.specs.declared.form.Negotiated.{Negotiated}
+use Rattle.pt_tables.specs.declared.reply.EventReply.TheVariants as event
 use Rattle.pt_iface.specs.declared.answer.Answer.{Answer}
 use Rattle.pt_iface.specs.declared.answer.Answer.TheVariants as answer
 use Rattle.pt_iface.specs.declared.entry.Entry.{Entry}
@@ -30,7 +30,7 @@ use Rattle.pt_req.specs.Attributes.{Label, host_label}
 use Rattle.pt_req.specs.Parts.{by_path, file_of, look_up, named}
 use Rattle.pt_req.specs.Steps.{begin, began_in, ok_in, or_refused, refused_in, resolve, resolved_in, session_of}
 use Rattle.pt_req.specs.Steps.{set_xattr, tried_in}
-use Rattle.pt_session.specs.declared.reply.Resolved.{Resolved}
+use Rattle.pt_tables.specs.declared.reply.Resolved.{Resolved}
 use Rattle.pt_req.specs.declared.begun.BegunSession.{BegunSession}
 use Rattle.pt_req.specs.declared.parts.looked.Looked.{Looked}
 use Rattle.pt_req.specs.declared.plan.Plan.{Plan}

@@ -5,13 +5,13 @@ use Rattle.pt_host.specs.declared.ids.Errno.{Errno}
 use Rattle.pt_host.specs.declared.ids.Fd.{Fd}
 use Rattle.pt_host.specs.declared.op.KeptHostOp.TheVariants as call
 use Rattle.pt_host.specs.declared.reply.HostReply.TheVariants as host
-use Rattle.pt_session.specs.Answers.{IsReplyFor, IsOneOf, refusals}
-use Rattle.pt_session.specs.Change.{Change}
-use Rattle.pt_session.specs.declared.event.KeptEvent.TheVariants as change
-use Rattle.pt_session.specs.declared.reply.EventReply.TheVariants as event
-use Rattle.pt_session.specs.declared.reply.EventRefusal.{EventRefusal}
-use Rattle.pt_session.specs.declared.reply.EventRefusal.TheVariants as refused
-use Rattle.pt_session.proofs.Replies.{answered}
+use Rattle.pt_tables.specs.Answers.{IsReplyFor, IsOneOf, refusals}
+use Rattle.pt_tables.specs.Change.{Change}
+use Rattle.pt_tables.specs.declared.event.KeptEvent.TheVariants as change
+use Rattle.pt_tables.specs.declared.reply.EventReply.TheVariants as event
+use Rattle.pt_tables.specs.declared.reply.EventRefusal.{EventRefusal}
+use Rattle.pt_tables.specs.declared.reply.EventRefusal.TheVariants as refused
+use Rattle.pt_tables.proofs.Replies.{answered}
 use Rattle.pt_iface.specs.declared.request.Request.{Request}
 use Rattle.pt_iface.specs.declared.request.Request.TheVariants as request
 use Rattle.pt_frame.specs.Deed.{Deed, Calls, Changes, Step}

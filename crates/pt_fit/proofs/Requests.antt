@@ -10,7 +10,7 @@ use Rattle.pt_host.specs.declared.reply.HostReply.TheVariants as host
 use Rattle.pt_host.specs.declared.reply.HostValue.TheVariants as value
 use Rattle.pt_host.specs.declared.stat.Stat.{Stat}
 use Rattle.pt_host.specs.declared.seat.HostSeat.{HostSeat}
-use Rattle.pt_session.specs.Tables.{nothing_agreed}
+use Rattle.pt_tables.specs.Tables.{nothing_agreed}
 use Rattle.pt_iface.specs.declared.answer.Answer.TheVariants as answer
 use Rattle.pt_iface.specs.declared.flags.FsOptions.{FsOptions}
 use Rattle.pt_iface.specs.declared.request.Context.{Context}

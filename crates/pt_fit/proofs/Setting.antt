@@ -23,7 +23,7 @@ use Rattle.pt_req.specs.Capability.{drops_fsetid}
 use Rattle.pt_req.specs.Entries.{attr_of}
 use Rattle.pt_req.specs.Parts.{file_of, open_row}
 use Rattle.pt_req.specs.Steps.{begin}
-use Rattle.pt_session.specs.declared.reply.Resolved.{Resolved}
+use Rattle.pt_tables.specs.declared.reply.Resolved.{Resolved}
 use Rattle.pt_req.specs.declared.plan.Plan.{Plan}
 use Rattle.pt_attr.specs.Setting.{atime_set, do_if, file_set, id_set, is_missized, mtime_set, opens_anew, own_as}
 use Rattle.pt_attr.specs.Setting.{set_mode, set_owner, set_size, set_times, setattr, setting_flags, sets_atime}

@@ -21,12 +21,12 @@ use Rattle.pt_host.specs.declared.reply.HostValue.{HostValue}
 use Rattle.pt_host.specs.declared.reply.HostValue.TheVariants as value
 use Rattle.pt_maps.specs.Translated.{to_host}
 use Rattle.pt_handles.specs.Dirents.{is_listing}
-use Rattle.pt_session.specs.Change.{Change}
-use Rattle.pt_session.specs.declared.event.KeptEvent.TheVariants as change
-use Rattle.pt_session.specs.declared.form.Negotiated.{Negotiated}
-use Rattle.pt_session.specs.declared.reply.EventReply.TheVariants.{Began, Refused, Resolved}
-use Rattle.pt_session.specs.declared.reply.EventRefusal.{EventRefusal}
-use Rattle.pt_session.specs.declared.reply.EventRefusal.TheVariants.{NotLive, Overtaken, NoSlot, Last, Live}
+use Rattle.pt_tables.specs.Change.{Change}
+use Rattle.pt_tables.specs.declared.event.KeptEvent.TheVariants as change
+use Rattle.pt_tables.specs.declared.form.Negotiated.{Negotiated}
+use Rattle.pt_tables.specs.declared.reply.EventReply.TheVariants.{Began, Refused, Resolved}
+use Rattle.pt_tables.specs.declared.reply.EventRefusal.{EventRefusal}
+use Rattle.pt_tables.specs.declared.reply.EventRefusal.TheVariants.{NotLive, Overtaken, NoSlot, Last, Live}
 use Rattle.pt_iface.specs.declared.answer.Answer.{Answer}
 use Rattle.pt_iface.specs.declared.answer.Answer.TheVariants as answer
 use Rattle.pt_iface.specs.declared.flags.SetattrValid.{SetattrValid}

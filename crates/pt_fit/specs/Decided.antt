@@ -1,6 +1,6 @@
 -- Believed. What a job decides for the session that it begins: `init` by what is configured and offered.
 use Rattle.std.specs.Prelude.{Option, Some, None}
-use Rattle.pt_session.specs.declared.form.Negotiated.{Negotiated}
+use Rattle.pt_tables.specs.declared.form.Negotiated.{Negotiated}
 use Rattle.pt_iface.specs.declared.request.Request.TheVariants as request
 use Rattle.pt_req.specs.Options.{agreed_with}
 use Rattle.pt_req.specs.declared.plan.Plan.{Plan}

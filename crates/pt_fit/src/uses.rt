@@ -1,8 +1,8 @@
 ghost use Rattle.std.specs.Prelude.{◌≡◌, ◌⊎◌, ℕ, List};
 ghost use Rattle.pt_host.specs.Errno.{ebadf};
 ghost use Rattle.pt_host.specs.declared.seat.HostSeat.{HostSeat};
-ghost use Rattle.pt_session.specs.Tables.{Tables, HasNumber, empty_tables};
-ghost use Rattle.pt_session.specs.Rows.{NoRow};
+ghost use Rattle.pt_tables.specs.Tables.{Tables, HasNumber, empty_tables};
+ghost use Rattle.pt_tables.specs.Rows.{NoRow};
 ghost use Rattle.pt_iface.specs.declared.answer.Answer.TheVariants as answer;
 ghost use Rattle.pt_iface.specs.declared.request.Context.{Context};
 ghost use Rattle.pt_iface.specs.declared.request.Request.{Request};

@@ -1,6 +1,6 @@
 -- A step is one event at most.
 use Rattle.std.proofs.Common.{◌≤◌, arith}
-use Rattle.pt_session.specs.declared.event.KeptEvent.TheVariants as change
+use Rattle.pt_tables.specs.declared.event.KeptEvent.TheVariants as change
 use Rattle.pt_frame.specs.Deed.{Deed, Calls, Changes}
 use Rattle.pt_frame.specs.Grammar.{Grammar, End, Do, May, events_first}
 use Rattle.pt_frame.specs.Replies.{events_in}

@@ -5,9 +5,9 @@ use Rattle.pt_host.specs.Reply.{ReplyHoldsBytes}
 use Rattle.pt_host.specs.Promises.{FitsCall}
 use Rattle.pt_host.specs.declared.reply.HostReply.TheVariants as host
 use Rattle.pt_host.specs.declared.reply.HostValue.TheVariants.{Bytes}
-use Rattle.pt_session.specs.Change.{Change, change_of, HoldsList}
-use Rattle.pt_session.specs.declared.reply.EventRefusal.TheVariants as refused
-use Rattle.pt_session.specs.declared.reply.EventReply.TheVariants as event
+use Rattle.pt_tables.specs.Change.{Change, change_of, HoldsList}
+use Rattle.pt_tables.specs.declared.reply.EventRefusal.TheVariants as refused
+use Rattle.pt_tables.specs.declared.reply.EventReply.TheVariants as event
 use Rattle.pt_frame.specs.declared.act.Act.{Act}
 use Rattle.pt_frame.specs.declared.act.Act.TheVariants as act
 use Rattle.pt_frame.specs.declared.act.KeptAct.{KeptAct}

@@ -5,7 +5,7 @@ use Rattle.std.specs.Prelude.{Some, None, ◌⊎◌}
 use Rattle.pt_host.specs.declared.ids.Errno.{Errno}
 use Rattle.pt_host.specs.declared.seat.HostSeat.{HostSeat}
 use Rattle.pt_host.specs.declared.op.KeptHostOp.TheVariants as call
-use Rattle.pt_session.specs.declared.event.KeptEvent.TheVariants as change
+use Rattle.pt_tables.specs.declared.event.KeptEvent.TheVariants as change
 use Rattle.pt_iface.specs.declared.answer.Answer.{Answer}
 use Rattle.pt_iface.specs.declared.answer.Answer.TheVariants as answer
 use Rattle.pt_frame.specs.Deed.{Deed, Calls, Changes, Step, IsStepOf}

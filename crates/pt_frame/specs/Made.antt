@@ -5,10 +5,10 @@ use Rattle.pt_host.specs.Relation.{HostRelation}
 use Rattle.pt_host.specs.Reply.{ReplyHoldsBytes}
 use Rattle.pt_host.specs.declared.reply.HostReply.{HostReply}
 use Rattle.pt_host.specs.declared.seat.HostSeat.{HostSeat}
-use Rattle.pt_session.specs.Change.{Change}
-use Rattle.pt_session.specs.Tables.{Tables}
-use Rattle.pt_session.specs.Happens.{Happens}
-use Rattle.pt_session.specs.declared.reply.EventReply.{EventReply}
+use Rattle.pt_tables.specs.Change.{Change}
+use Rattle.pt_tables.specs.Tables.{Tables}
+use Rattle.pt_tables.specs.Happens.{Happens}
+use Rattle.pt_tables.specs.declared.reply.EventReply.{EventReply}
 use Rattle.pt_frame.specs.Deed.{Deed, Calls, Changes, Step}
 use Rattle.pt_frame.specs.declared.act.ActReply.{ActReply}
 use Rattle.pt_frame.specs.declared.act.ActReply.TheVariants.{Event, Host, NoCopy}

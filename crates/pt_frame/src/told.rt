@@ -1,7 +1,7 @@
 ghost use Rattle.std.specs.Prelude.{◌≡◌, ◌<◌, ◌≤◌, ◌++◌, ◌∷◌, [], length, slice_get};
 ghost use Rattle.pt_host.specs.Call.{call_of};
 ghost use Rattle.pt_host.specs.Sorts.{sort_of};
-ghost use Rattle.pt_session.specs.Change.{change_of};
+ghost use Rattle.pt_tables.specs.Change.{change_of};
 ghost use Rattle.pt_frame.specs.Deed.{deed_of};
 ghost use Rattle.pt_frame.specs.Machine.Brings.{brings_of, change_brings, is_same, sort_brings};
 ghost use Rattle.pt_frame.specs.Machine.Room.{most_told};

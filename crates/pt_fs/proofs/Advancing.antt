@@ -3,10 +3,10 @@ use Rattle.std.proofs.Common.{◌≡◌, ◌≤◌, ◌<◌, ◌+◌, ◌*◌, �
 use Rattle.pt_host.specs.Call.{Call}
 use Rattle.pt_host.specs.declared.reply.HostReply.{HostReply}
 use Rattle.pt_host.specs.declared.seat.HostSeat.{HostSeat}
-use Rattle.pt_session.specs.Change.{Change}
-use Rattle.pt_session.specs.Happens.{Happens}
-use Rattle.pt_session.specs.Tables.{Tables}
-use Rattle.pt_session.specs.declared.reply.EventReply.{EventReply}
+use Rattle.pt_tables.specs.Change.{Change}
+use Rattle.pt_tables.specs.Happens.{Happens}
+use Rattle.pt_tables.specs.Tables.{Tables}
+use Rattle.pt_tables.specs.declared.reply.EventReply.{EventReply}
 use Rattle.pt_frame.specs.Deed.{Deed, Calls, Changes, IsStepOf, MayFailToCopy, MayTellBytes, HoldsReplyBytes}
 use Rattle.pt_frame.specs.Deed.{deed_of, kept_deed_of}
 use Rattle.pt_frame.specs.Grammar.{Grammar, End, Do, May, IsChosen, Wants, after, Owed, told_closings}

@@ -3,7 +3,7 @@ use Rattle.std.proofs.Common.{◌≡◌, ◌≤◌, ℕ, List, Option, length, m
 use Rattle.pt_host.specs.Relation.{HostRelation}
 use Rattle.pt_host.specs.Tree.{Tree}
 use Rattle.pt_host.specs.declared.seat.HostSeat.{HostSeat}
-use Rattle.pt_session.specs.Tables.{Tables, empty_tables}
+use Rattle.pt_tables.specs.Tables.{Tables, empty_tables}
 use Rattle.pt_iface.specs.declared.answer.Answer.{Answer}
 use Rattle.pt_req.specs.declared.plan.Plan.{Plan}
 use Rattle.pt_law.proofs.Hosts.{Tells}

@@ -4,14 +4,14 @@ use Rattle.pt_host.specs.Call.{Call}
 use Rattle.pt_host.specs.declared.reply.HostReply.{HostReply}
 use Rattle.pt_host.specs.declared.reply.HostReply.TheVariants as host
 use Rattle.pt_host.specs.declared.seat.HostSeat.{HostSeat}
-use Rattle.pt_session.specs.Change.{Change}
-use Rattle.pt_session.specs.Tables.{Tables, Agree}
-use Rattle.pt_session.specs.Happens.{Happens}
-use Rattle.pt_session.specs.declared.reply.EventRefusal.TheVariants as refused
-use Rattle.pt_session.specs.declared.reply.EventReply.{EventReply}
-use Rattle.pt_session.specs.declared.reply.EventReply.TheVariants as event
-use Rattle.pt_session.proofs.Determined.{determined as event_determined}
-use Rattle.pt_session.proofs.Effects.{keeps_agree}
+use Rattle.pt_tables.specs.Change.{Change}
+use Rattle.pt_tables.specs.Tables.{Tables, Agree}
+use Rattle.pt_tables.specs.Happens.{Happens}
+use Rattle.pt_tables.specs.declared.reply.EventRefusal.TheVariants as refused
+use Rattle.pt_tables.specs.declared.reply.EventReply.{EventReply}
+use Rattle.pt_tables.specs.declared.reply.EventReply.TheVariants as event
+use Rattle.pt_tables.proofs.Determined.{determined as event_determined}
+use Rattle.pt_tables.proofs.Effects.{keeps_agree}
 use Rattle.pt_frame.specs.Deed.{Deed, Calls, Changes, IsStepOf, LacksMemory}
 use Rattle.pt_frame.specs.Determined.{IsDeterminedHost}
 use Rattle.pt_host.specs.Relation.{HostRelation}

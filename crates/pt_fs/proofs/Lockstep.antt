@@ -7,8 +7,8 @@ use Rattle.pt_host.specs.Relation.{HostRelation}
 use Rattle.pt_host.specs.declared.ids.Errno.{Errno}
 use Rattle.pt_host.specs.declared.op.KeptHostOp.{KeptHostOp}
 use Rattle.pt_host.specs.declared.seat.HostSeat.{HostSeat}
-use Rattle.pt_session.specs.Tables.{Tables, Agree}
-use Rattle.pt_session.specs.declared.event.KeptEvent.{KeptEvent}
+use Rattle.pt_tables.specs.Tables.{Tables, Agree}
+use Rattle.pt_tables.specs.declared.event.KeptEvent.{KeptEvent}
 use Rattle.pt_frame.specs.Deed.{Deed, Calls, Changes, IsStepOf, kept_deed_of, LacksMemory}
 use Rattle.pt_frame.specs.Determined.{IsDeterminedHost}
 use Rattle.pt_frame.specs.Grammar.{Grammar}

@@ -8,7 +8,7 @@ use Rattle.std.proofs.lemmas.Option.{same_Some, slice_get_within}
 use Rattle.pt_host.specs.Relation.{HostRelation}
 use Rattle.pt_host.specs.declared.ids.Errno.{Errno}
 use Rattle.pt_host.specs.declared.seat.HostSeat.{HostSeat}
-use Rattle.pt_session.specs.Tables.{Tables}
+use Rattle.pt_tables.specs.Tables.{Tables}
 use Rattle.pt_frame.specs.Deed.{Step, kept_deed_of}
 use Rattle.pt_frame.specs.Grammar.{Grammar, End, Do, May, restores, is_end, IsSettled}
 use Rattle.pt_frame.specs.Past.{Past, past_made, past_from}

@@ -4,7 +4,7 @@ use Rattle.std.proofs.Common.{None, refl, ap, sym, append_assoc, eq-eqb}
 use Rattle.pt_host.specs.Relation.{HostRelation}
 use Rattle.pt_host.specs.declared.ids.Errno.{Errno}
 use Rattle.pt_host.specs.declared.reply.HostReply.TheVariants.{Fault}
-use Rattle.pt_session.specs.Tables.{Tables}
+use Rattle.pt_tables.specs.Tables.{Tables}
 use Rattle.pt_iface.specs.declared.answer.Answer.{Answer}
 use Rattle.pt_frame.specs.Deed.{Deed, Step, kept_deed_of}
 use Rattle.pt_frame.specs.Past.{Past, past_of, past_from, past_made, is_restoring, lost_after}

@@ -1,13 +1,13 @@
 -- Each closing that a job is told is paid by a row.
 use Rattle.std.proofs.Common.{◌≡◌, ◌+◌, ◌≤◌, refl, arith}
-use Rattle.pt_session.specs.Change.{Change}
-use Rattle.pt_session.specs.Happens.{Happens}
-use Rattle.pt_session.specs.Pending.{pending_in, put_by, added_by}
-use Rattle.pt_session.specs.Tables.{Tables}
-use Rattle.pt_session.specs.declared.event.KeptEvent.TheVariants as change
-use Rattle.pt_session.specs.declared.reply.EventReply.{EventReply}
-use Rattle.pt_session.specs.declared.reply.EventReply.TheVariants as reply
-use Rattle.pt_session.proofs.Replies.{pays}
+use Rattle.pt_tables.specs.Change.{Change}
+use Rattle.pt_tables.specs.Happens.{Happens}
+use Rattle.pt_tables.specs.Pending.{pending_in, put_by, added_by}
+use Rattle.pt_tables.specs.Tables.{Tables}
+use Rattle.pt_tables.specs.declared.event.KeptEvent.TheVariants as change
+use Rattle.pt_tables.specs.declared.reply.EventReply.{EventReply}
+use Rattle.pt_tables.specs.declared.reply.EventReply.TheVariants as reply
+use Rattle.pt_tables.proofs.Replies.{pays}
 use Rattle.pt_frame.specs.Deed as deed
 use Rattle.pt_frame.specs.Replies.{closings_in, inserted_by}
 use Rattle.pt_frame.specs.declared.act.ActReply.TheVariants.{Event}

@@ -6,7 +6,7 @@ use Rattle.pt_host.specs.Seat.{IsStartingSeat}
 use Rattle.pt_host.specs.declared.ids.Errno.{Errno}
 use Rattle.pt_host.specs.declared.reply.HostReply.TheVariants.{Refused}
 use Rattle.pt_host.specs.declared.seat.HostSeat.{HostSeat}
-use Rattle.pt_session.specs.Tables.{Tables}
+use Rattle.pt_tables.specs.Tables.{Tables}
 use Rattle.pt_iface.specs.declared.answer.Answer.{Answer}
 use Rattle.pt_iface.specs.declared.answer.Answer.TheVariants as answer
 use Rattle.pt_frame.specs.Deed.{Deed, Step}

@@ -4,7 +4,7 @@ use Rattle.std.proofs.Common.{slice_get, slice_set}
 use Rattle.pt_host.specs.Relation.{HostRelation}
 use Rattle.pt_host.specs.declared.ids.Errno.{Errno}
 use Rattle.pt_host.specs.declared.seat.HostSeat.{HostSeat}
-use Rattle.pt_session.specs.Tables.{Tables}
+use Rattle.pt_tables.specs.Tables.{Tables}
 use Rattle.pt_frame.specs.Deed.{Deed}
 use Rattle.pt_frame.specs.Grammar.{Grammar, restores}
 use Rattle.pt_frame.specs.Past.{lost_after}

@@ -4,7 +4,7 @@ use Rattle.std.proofs.Common.{cond, Option, Some, None, length, slice_get, slice
 use Rattle.std.proofs.lemmas.Bool.{ne_eqb}
 use Rattle.std.proofs.lemmas.Option.{same_Some}
 use Rattle.pt_host.specs.declared.seat.HostSeat.{HostSeat}
-use Rattle.pt_session.specs.Tables.{Tables}
+use Rattle.pt_tables.specs.Tables.{Tables}
 use Rattle.pt_frame.specs.Deed.{Deed, Step}
 use Rattle.pt_host.specs.Relation.{HostRelation}
 use Rattle.pt_frame.specs.Made.{Made}

@@ -5,8 +5,8 @@ use Rattle.pt_host.specs.declared.ids.Errno.{Errno}
 use Rattle.pt_frame.specs.Past.{lost_after}
 use Rattle.std.proofs.lemmas.Option.{same_Some}
 use Rattle.pt_host.specs.declared.seat.HostSeat.{HostSeat}
-use Rattle.pt_session.specs.Pending.{pending_in}
-use Rattle.pt_session.specs.Tables.{Tables}
+use Rattle.pt_tables.specs.Pending.{pending_in}
+use Rattle.pt_tables.specs.Tables.{Tables}
 use Rattle.pt_frame.specs.Deed.{Deed, Changes, Calls}
 use Rattle.pt_fs.specs.Running.{steps_bound, inserts_left}
 use Rattle.pt_host.specs.Relation.{HostRelation}

@@ -3,7 +3,7 @@ use Rattle.std.specs.Prelude.{◌≡◌, ◌≢◌, ℕ, true, List, Option, Som
 use Rattle.pt_host.specs.Words.{Each}
 use Rattle.pt_host.specs.declared.ids.Errno.{Errno}
 use Rattle.pt_host.specs.declared.seat.HostSeat.{HostSeat}
-use Rattle.pt_session.specs.Tables.{Tables, Agree}
+use Rattle.pt_tables.specs.Tables.{Tables, Agree}
 use Rattle.pt_iface.specs.declared.answer.Answer.{Answer}
 use Rattle.pt_iface.specs.declared.answer.Answer.TheVariants.{Cut, NoMemory}
 use Rattle.pt_frame.specs.Deed.{LacksMemory}

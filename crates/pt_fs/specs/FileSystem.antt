@@ -16,7 +16,7 @@ use Rattle.pt_maps.specs.Refusal.{AreAccepted, IsFirstRefusal}
 use Rattle.pt_maps.specs.declared.error.MapError.{MapError}
 use Rattle.pt_maps.specs.declared.rule.IdRule.{IdRule}
 use Rattle.pt_maps.specs.declared.xattr_rule.XattrRule.{XattrRule}
-use Rattle.pt_session.specs.Tables.{Tables}
+use Rattle.pt_tables.specs.Tables.{Tables}
 use Rattle.pt_iface.specs.declared.answer.Refusal.{Refusal}
 use Rattle.pt_iface.specs.declared.answer.Refusal.TheVariants as refusal
 use Rattle.pt_req.specs.Plan.{moved_capability}

@@ -2,7 +2,7 @@
 use Rattle.std.specs.Prelude.{◌≤◌, List, length, Option}
 use Rattle.pt_host.specs.Tree.{Tree}
 use Rattle.pt_host.specs.declared.seat.HostSeat.{HostSeat}
-use Rattle.pt_session.specs.Tables.{Tables, Agree}
+use Rattle.pt_tables.specs.Tables.{Tables, Agree}
 use Rattle.pt_iface.specs.declared.answer.Answer.{Answer}
 use Rattle.pt_host.specs.Relation.{HostRelation}
 use Rattle.pt_req.specs.declared.plan.Plan.{Plan}

@@ -4,8 +4,8 @@ use Rattle.pt_host.specs.Call.{Call}
 use Rattle.pt_host.specs.Relation.{HostRelation}
 use Rattle.pt_host.specs.declared.reply.HostReply.{HostReply}
 use Rattle.pt_host.specs.declared.seat.HostSeat.{HostSeat}
-use Rattle.pt_session.specs.Happens.{Happens}
-use Rattle.pt_session.specs.Tables.{Tables}
+use Rattle.pt_tables.specs.Happens.{Happens}
+use Rattle.pt_tables.specs.Tables.{Tables}
 use Rattle.pt_frame.specs.Deed.{kept_deed_of}
 use Rattle.pt_frame.specs.Grammar.{Grammar, restores}
 use Rattle.pt_frame.specs.Made.{Makes}

@@ -2,7 +2,7 @@
 use Rattle.std.specs.Prelude.{List, Option}
 use Rattle.pt_host.specs.Relation.{HostRelation}
 use Rattle.pt_host.specs.declared.seat.HostSeat.{HostSeat}
-use Rattle.pt_session.specs.Tables.{Tables}
+use Rattle.pt_tables.specs.Tables.{Tables}
 use Rattle.pt_fs.specs.Recorded.{Writes}
 use Rattle.pt_fs.specs.Trace.{MadeAt, TraceRuns}
 use Rattle.pt_fs.specs.declared.trace.TraceStep.{TraceStep}

@@ -1,7 +1,7 @@
 -- Inner. One step of one of the jobs.
 use Rattle.std.specs.Prelude.{◌+◌, ◌*◌, ◌≤◌, ◌≡◌, ◌<◌, ◌⊎◌, None, ℕ, List, [], ◌∷◌, ◌++◌, Option, Some, true, false}
 use Rattle.std.specs.Prelude.{slice_get, slice_set, Result, Ok, Err}
-use Rattle.pt_session.specs.Tables.{Tables}
+use Rattle.pt_tables.specs.Tables.{Tables}
 use Rattle.pt_frame.specs.Deed.{kept_deed_of}
 use Rattle.pt_host.specs.declared.ids.Errno.{Errno}
 use Rattle.pt_frame.specs.Grammar.{is_end, restores}

@@ -3,8 +3,8 @@ use Rattle.std.specs.Prelude.{◌≡◌, ◌≤◌, ◌⊎◌, ℕ, ◌+◌, ◌
 use Rattle.std.specs.Prelude.{slice_get}
 use Rattle.std.specs.Prelude.{slice_set, if◌then◌else◌}
 use Rattle.pt_host.specs.declared.seat.HostSeat.{HostSeat}
-use Rattle.pt_session.specs.Happens.{Happens}
-use Rattle.pt_session.specs.Tables.{Tables}
+use Rattle.pt_tables.specs.Happens.{Happens}
+use Rattle.pt_tables.specs.Tables.{Tables}
 use Rattle.pt_iface.specs.declared.answer.Answer.{Answer}
 use Rattle.pt_frame.specs.Deed.{Deed, HoldsReplyBytes, Step, kept_deed_of}
 use Rattle.pt_frame.specs.Replies.{closings_in}

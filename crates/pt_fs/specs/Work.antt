@@ -1,7 +1,7 @@
 -- Inner. A bound on all steps that are left.
 use Rattle.std.specs.Prelude.{ℕ, ◌+◌, ◌*◌, ◌≤◌, List, [], ◌∷◌}
-use Rattle.pt_session.specs.Pending.{pending_in}
-use Rattle.pt_session.specs.Tables.{Tables}
+use Rattle.pt_tables.specs.Pending.{pending_in}
+use Rattle.pt_tables.specs.Tables.{Tables}
 use Rattle.pt_fs.specs.Running.{steps_bound, inserts_left}
 use Rattle.pt_fs.specs.Running.{Running}
 

@@ -1,9 +1,9 @@
 ghost use Rattle.std.specs.Prelude.{◌≡◌, ◌≤◌, [], ◌∷◌, None, IfOk, IfErr};
 ghost use Rattle.pt_host.specs.declared.ids.Fd.{Fd};
 ghost use Rattle.pt_host.specs.declared.seat.HostSeat.{HostSeat};
-ghost use Rattle.pt_session.specs.Change.{change_of};
-ghost use Rattle.pt_session.specs.Happens.{Happens};
-ghost use Rattle.pt_session.specs.Tables.{Tables};
+ghost use Rattle.pt_tables.specs.Change.{change_of};
+ghost use Rattle.pt_tables.specs.Happens.{Happens};
+ghost use Rattle.pt_tables.specs.Tables.{Tables};
 ghost use Rattle.pt_job.specs.Machine.Job.{owes, steps_bound, inserts_left, lost_of};
 ghost use Rattle.pt_job.specs.Pattern.{grammar_of, bound_of, most_inserted};
 ghost use Rattle.pt_req.specs.declared.plan.Plan.{Plan};

@@ -1,7 +1,7 @@
 ghost use Rattle.std.specs.Prelude.{◌≡◌, ◌⊎◌, IfOk, IfErr, OnOk, OnErr};
 ghost use Rattle.pt_host.specs.declared.reply.HostReply.{HostReply};
 ghost use Rattle.pt_maps.specs.Refusal.{AreAccepted};
-ghost use Rattle.pt_session.specs.Tables.{empty_tables};
+ghost use Rattle.pt_tables.specs.Tables.{empty_tables};
 ghost use Rattle.pt_req.specs.Plan.{moved_capability};
 ghost use Rattle.pt_fs.specs.FileSystem.{
   opens_root,

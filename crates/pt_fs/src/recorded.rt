@@ -1,7 +1,7 @@
 //! A run whose steps are written down as they are made.
 
 ghost use Rattle.std.specs.Prelude.{◌≡◌, ◌<◌, ◌^◌, ℕ, length, map};
-ghost use Rattle.pt_session.specs.Tables.{empty_tables};
+ghost use Rattle.pt_tables.specs.Tables.{empty_tables};
 ghost use Rattle.pt_fs.specs.Each.{EachAnswered};
 ghost use Rattle.pt_fs.specs.Ends.{RunEndsSo};
 ghost use Rattle.pt_fs.specs.Jobs.{StartAll, job_seat};

@@ -1,5 +1,5 @@
 ghost use Rattle.std.specs.Prelude.{◌≤◌, vec_capacity, ◌≡◌, ◌<◌, ◌^◌, ℕ, [], length, IfOk};
-ghost use Rattle.pt_session.specs.Tables.{empty_tables};
+ghost use Rattle.pt_tables.specs.Tables.{empty_tables};
 ghost use Rattle.pt_fs.specs.Ends.{EndsWhole, LosesSeat, OnDriven, OnLost, OnMemory};
 ghost use Rattle.pt_fs.specs.Jobs.{StartAll};
 ghost use Rattle.pt_fs.specs.Run.{IsRun};

@@ -2,7 +2,7 @@
 
 ghost use Rattle.std.specs.Prelude.{◌≡◌, ℕ, List, Option, Some, slice_get};
 ghost use Rattle.pt_host.specs.declared.seat.HostSeat.{HostSeat};
-ghost use Rattle.pt_session.specs.Tables.{Tables};
+ghost use Rattle.pt_tables.specs.Tables.{Tables};
 ghost use Rattle.pt_fs.specs.Determined.{TurnsAreDetermined};
 ghost use Rattle.pt_fs.specs.Trace.{TraceRuns, steps_by};
 ghost use Rattle.pt_fs.specs.declared.trace.TraceStep.{TraceStep};

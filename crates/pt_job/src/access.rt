@@ -1,8 +1,8 @@
 //! The seam between a run and its tables: what makes the events of jobs, over a session that is a run's own or shared.
 
 ghost use Rattle.std.specs.Prelude.{◌≡◌, ℕ, Option};
-ghost use Rattle.pt_session.specs.Change.{Change, change_of};
-ghost use Rattle.pt_session.specs.declared.reply.EventReply.{EventReply};
+ghost use Rattle.pt_tables.specs.Change.{Change, change_of};
+ghost use Rattle.pt_tables.specs.declared.reply.EventReply.{EventReply};
 ghost use Rattle.pt_job.specs.Access.{HasSpare, FallsByOne};
 
 use pt_session::{Event, EventReply, Session};
@@ -28,7 +28,7 @@ pub trait SessionAccess {
 
 impl SessionAccess for Session {
     ghost use Rattle.std.specs.Prelude.{None};
-    ghost use Rattle.pt_session.specs.Happens.{Happens};
+    ghost use Rattle.pt_tables.specs.Happens.{Happens};
 
     ghost makes = { Happens };
 

@@ -2,20 +2,20 @@
 use Rattle.std.proofs.Common.{◌≡◌, inl, inr, ℕ, suc, false, ◌+◌, ◌*◌, List, [], ◌∷◌, length, refl, ap, ◌∙◌, arith}
 use Rattle.std.proofs.Common.{Option, Some, None, length-append}
 use Rattle.pt_host.specs.Words.{is, total}
-use Rattle.pt_session.specs.Change.{Change}
-use Rattle.pt_session.specs.Tables.{Tables, closing_of, closing_of_handle}
-use Rattle.pt_session.specs.declared.row.Row.{Row}
-use Rattle.pt_session.specs.declared.row.HandleRow.{HandleRow}
-use Rattle.pt_session.specs.Rows.{ChangesRow, number_rows, EndsRow, Dies, handle_rows, AllDie}
-use Rattle.pt_session.specs.Rows.{AllDie.{none as no_live, next as next_dies}}
-use Rattle.pt_session.specs.Happens.{Happens, ForgetsOne, ForgetsAll, Clears, new_row, with_row, agreed}
-use Rattle.pt_session.proofs.Cases.{GivesPin, Case, cases}
-use Rattle.pt_session.specs.declared.form.RowForm.{RowForm}
-use Rattle.pt_session.specs.declared.form.RowForm.TheVariants.{File}
-use Rattle.pt_session.specs.declared.form.Negotiated.{Negotiated}
-use Rattle.pt_session.specs.declared.event.KeptEvent.TheVariants as change
-use Rattle.pt_session.specs.declared.reply.EventReply.{EventReply}
-use Rattle.pt_session.specs.declared.reply.EventReply.TheVariants as reply
+use Rattle.pt_tables.specs.Change.{Change}
+use Rattle.pt_tables.specs.Tables.{Tables, closing_of, closing_of_handle}
+use Rattle.pt_tables.specs.declared.row.Row.{Row}
+use Rattle.pt_tables.specs.declared.row.HandleRow.{HandleRow}
+use Rattle.pt_tables.specs.Rows.{ChangesRow, number_rows, EndsRow, Dies, handle_rows, AllDie}
+use Rattle.pt_tables.specs.Rows.{AllDie.{none as no_live, next as next_dies}}
+use Rattle.pt_tables.specs.Happens.{Happens, ForgetsOne, ForgetsAll, Clears, new_row, with_row, agreed}
+use Rattle.pt_tables.proofs.Cases.{GivesPin, Case, cases}
+use Rattle.pt_tables.specs.declared.form.RowForm.{RowForm}
+use Rattle.pt_tables.specs.declared.form.RowForm.TheVariants.{File}
+use Rattle.pt_tables.specs.declared.form.Negotiated.{Negotiated}
+use Rattle.pt_tables.specs.declared.event.KeptEvent.TheVariants as change
+use Rattle.pt_tables.specs.declared.reply.EventReply.{EventReply}
+use Rattle.pt_tables.specs.declared.reply.EventReply.TheVariants as reply
 use Rattle.pt_frame.specs.Deed.{Deed, Changes as Asks}
 use Rattle.pt_frame.specs.Replies.{closings_in}
 use Rattle.pt_frame.specs.declared.act.ActReply.{ActReply}

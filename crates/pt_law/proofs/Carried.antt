@@ -13,9 +13,9 @@ use Rattle.pt_host.specs.declared.reply.HostReply.{HostReply}
 use Rattle.pt_host.specs.declared.reply.HostReply.TheVariants as host
 use Rattle.pt_host.specs.declared.reply.HostValue.TheVariants as value
 use Rattle.pt_host.specs.declared.seat.HostSeat.{HostSeat}
-use Rattle.pt_session.specs.Tables.{Tables}
-use Rattle.pt_session.specs.declared.event.NewHandle.{NewHandle}
-use Rattle.pt_session.specs.declared.event.KeptEvent.TheVariants as change
+use Rattle.pt_tables.specs.Tables.{Tables}
+use Rattle.pt_tables.specs.declared.event.NewHandle.{NewHandle}
+use Rattle.pt_tables.specs.declared.event.KeptEvent.TheVariants as change
 use Rattle.pt_frame.specs.Deed.{Deed, Calls, Changes, Step}
 use Rattle.pt_frame.specs.Made.{Made}
 use Rattle.pt_frame.specs.declared.act.ActReply.{ActReply}

@@ -2,16 +2,16 @@
 use Rattle.std.proofs.Common.{◌≡◌, ◌≢◌, ⊎_elim, ℕ, ◌+◌, ◌*◌, ◌<◌, ◌≤◌, List, [], ◌∷◌, length, refl, ap, arith, Some}
 use Rattle.std.proofs.lemmas.Bool.{cases_eq}
 use Rattle.pt_host.specs.Words.{is, total, Each, set_at, sum_to}
-use Rattle.pt_session.specs.Change.{Change}
-use Rattle.pt_session.specs.Tables.{Tables, Agree}
-use Rattle.pt_session.specs.declared.row.Row.{Row}
-use Rattle.pt_session.specs.declared.row.HandleRow.{HandleRow}
-use Rattle.pt_session.specs.Happens.{Happens}
-use Rattle.pt_session.proofs.Cases.{Case, cases}
-use Rattle.pt_session.specs.declared.event.KeptEvent.TheVariants as change
-use Rattle.pt_session.specs.declared.reply.EventRefusal.TheVariants.{NotLive}
-use Rattle.pt_session.specs.declared.reply.EventReply.{EventReply}
-use Rattle.pt_session.specs.declared.reply.EventReply.TheVariants as event
+use Rattle.pt_tables.specs.Change.{Change}
+use Rattle.pt_tables.specs.Tables.{Tables, Agree}
+use Rattle.pt_tables.specs.declared.row.Row.{Row}
+use Rattle.pt_tables.specs.declared.row.HandleRow.{HandleRow}
+use Rattle.pt_tables.specs.Happens.{Happens}
+use Rattle.pt_tables.proofs.Cases.{Case, cases}
+use Rattle.pt_tables.specs.declared.event.KeptEvent.TheVariants as change
+use Rattle.pt_tables.specs.declared.reply.EventRefusal.TheVariants.{NotLive}
+use Rattle.pt_tables.specs.declared.reply.EventReply.{EventReply}
+use Rattle.pt_tables.specs.declared.reply.EventReply.TheVariants as event
 use Rattle.pt_frame.specs.Deed.{Deed, Calls, Changes}
 use Rattle.pt_frame.specs.Replies.{closings_in}
 use Rattle.pt_frame.specs.declared.act.ActReply.{ActReply}

@@ -2,24 +2,24 @@
 use Rattle.std.proofs.Common.{◌≡◌, inl, inr, ℕ, ◌+◌, ◌-◌, ◌≤◌, List, [], ◌∷◌, ◌++◌, true, false, refl, ap, ◌∙◌, arith}
 use Rattle.pt_host.specs.Words.{Each, Takes, Replaces}
 use Rattle.pt_host.specs.declared.ids.ObjIds.{ObjIds}
-use Rattle.pt_session.specs.Change.{Change}
-use Rattle.pt_session.specs.Tables.{Tables, closing_of, Agree}
-use Rattle.pt_session.specs.declared.row.Row.{Row}
-use Rattle.pt_session.specs.declared.row.HandleRow.{HandleRow}
-use Rattle.pt_session.specs.Rows.{ChangesRow, number_rows, EndsRow, Dies, handle_rows, AllDie}
-use Rattle.pt_session.specs.Rows.{AllDie.{none as no_live, next as next_dies}}
-use Rattle.pt_session.specs.Happens.{Happens, ForgetsOne, ForgetsAll, Clears}
-use Rattle.pt_session.proofs.Cases.{GivesPin, GivenAgain, Case, cases}
-use Rattle.pt_session.specs.Effect.{IsLaterHandle}
-use Rattle.pt_session.specs.Effect.{Effect}
-use Rattle.pt_session.specs.Effect.{Effect.{nothing as unchanged, counted, changed as row_changed}}
-use Rattle.pt_session.specs.Effect.{Effect.{ended as row_ended, added, drawn, handle_changed, handle_ended}}
-use Rattle.pt_session.specs.Effect.{Effect.{handle_added, begun, shut}}
-use Rattle.pt_session.specs.Effect.{Effects, Effects.{none, more}}
-use Rattle.pt_session.specs.declared.event.KeptEvent.TheVariants as change
-use Rattle.pt_session.specs.declared.reply.EventReply.{EventReply}
-use Rattle.pt_session.specs.declared.reply.EventReply.TheVariants as reply
-use Rattle.pt_session.proofs.Effects.{case_effects, effects, keeps_agree}
+use Rattle.pt_tables.specs.Change.{Change}
+use Rattle.pt_tables.specs.Tables.{Tables, closing_of, Agree}
+use Rattle.pt_tables.specs.declared.row.Row.{Row}
+use Rattle.pt_tables.specs.declared.row.HandleRow.{HandleRow}
+use Rattle.pt_tables.specs.Rows.{ChangesRow, number_rows, EndsRow, Dies, handle_rows, AllDie}
+use Rattle.pt_tables.specs.Rows.{AllDie.{none as no_live, next as next_dies}}
+use Rattle.pt_tables.specs.Happens.{Happens, ForgetsOne, ForgetsAll, Clears}
+use Rattle.pt_tables.proofs.Cases.{GivesPin, GivenAgain, Case, cases}
+use Rattle.pt_tables.specs.Effect.{IsLaterHandle}
+use Rattle.pt_tables.specs.Effect.{Effect}
+use Rattle.pt_tables.specs.Effect.{Effect.{nothing as unchanged, counted, changed as row_changed}}
+use Rattle.pt_tables.specs.Effect.{Effect.{ended as row_ended, added, drawn, handle_changed, handle_ended}}
+use Rattle.pt_tables.specs.Effect.{Effect.{handle_added, begun, shut}}
+use Rattle.pt_tables.specs.Effect.{Effects, Effects.{none, more}}
+use Rattle.pt_tables.specs.declared.event.KeptEvent.TheVariants as change
+use Rattle.pt_tables.specs.declared.reply.EventReply.{EventReply}
+use Rattle.pt_tables.specs.declared.reply.EventReply.TheVariants as reply
+use Rattle.pt_tables.proofs.Effects.{case_effects, effects, keeps_agree}
 use Rattle.pt_law.proofs.Lists.{each_replaces, each_takes}
 
 -- the same row, later

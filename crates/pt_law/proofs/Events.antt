@@ -6,19 +6,19 @@ use Rattle.pt_host.specs.Words.{Each, set_at}
 use Rattle.pt_host.specs.Tree.{Tree, IsWellFormed}
 use Rattle.pt_host.specs.declared.ids.Fd.{Fd}
 use Rattle.pt_host.specs.declared.ids.ObjIds.{ObjIds}
-use Rattle.pt_session.specs.Change.{Change}
-use Rattle.pt_session.specs.Tables.{Tables, IsSoundRow, IsSoundHandle, Agree}
-use Rattle.pt_session.specs.declared.row.Row.{Row}
-use Rattle.pt_session.specs.Happens.{new_row, with_row, agreed}
-use Rattle.pt_session.proofs.Cases.{Case, GivenAgain}
-use Rattle.pt_session.specs.declared.form.RowForm.{RowForm}
-use Rattle.pt_session.specs.declared.form.RowForm.TheVariants.{File}
+use Rattle.pt_tables.specs.Change.{Change}
+use Rattle.pt_tables.specs.Tables.{Tables, IsSoundRow, IsSoundHandle, Agree}
+use Rattle.pt_tables.specs.declared.row.Row.{Row}
+use Rattle.pt_tables.specs.Happens.{new_row, with_row, agreed}
+use Rattle.pt_tables.proofs.Cases.{Case, GivenAgain}
+use Rattle.pt_tables.specs.declared.form.RowForm.{RowForm}
+use Rattle.pt_tables.specs.declared.form.RowForm.TheVariants.{File}
 use Rattle.pt_frame.specs.Held.{row_fd}
-use Rattle.pt_session.specs.declared.form.Negotiated.{Negotiated}
-use Rattle.pt_session.specs.declared.event.KeptEvent.TheVariants as change
-use Rattle.pt_session.specs.declared.reply.Resolved.{Resolved}
-use Rattle.pt_session.specs.declared.reply.EventReply.{EventReply}
-use Rattle.pt_session.specs.declared.reply.EventReply.TheVariants as event
+use Rattle.pt_tables.specs.declared.form.Negotiated.{Negotiated}
+use Rattle.pt_tables.specs.declared.event.KeptEvent.TheVariants as change
+use Rattle.pt_tables.specs.declared.reply.Resolved.{Resolved}
+use Rattle.pt_tables.specs.declared.reply.EventReply.{EventReply}
+use Rattle.pt_tables.specs.declared.reply.EventReply.TheVariants as event
 use Rattle.pt_frame.specs.Deed.{Changes}
 use Rattle.pt_law.specs.World.{fd_of}
 use Rattle.pt_frame.specs.Replies.{taken_in, brought}

@@ -2,8 +2,8 @@
 -- taken its last step once is not either.
 use Rattle.std.proofs.Common.{◌≡◌, ◌≤◌, ℕ, zero, suc, List, [], ◌∷◌, ◌++◌, refl, sym, ap, subst, ◌∙◌, arith, None, Some}
 use Rattle.pt_host.specs.declared.ids.ObjIds.{ObjIds}
-use Rattle.pt_session.specs.declared.event.KeptEvent.TheVariants as change
-use Rattle.pt_session.specs.declared.reply.EventReply.TheVariants as event
+use Rattle.pt_tables.specs.declared.event.KeptEvent.TheVariants as change
+use Rattle.pt_tables.specs.declared.reply.EventReply.TheVariants as event
 use Rattle.pt_iface.specs.declared.answer.Answer.TheVariants as answer
 use Rattle.pt_iface.specs.declared.entry.Entry.{Entry}
 use Rattle.pt_frame.specs.Deed.{Changes}

@@ -3,14 +3,14 @@
 -- number is given to it.
 use Rattle.std.proofs.Common.{inl, inr, ℕ, List, [], ◌∷◌, refl, arith, None, Some}
 use Rattle.pt_host.specs.declared.ids.ObjIds.{ObjIds}
-use Rattle.pt_session.specs.Change.{Change}
-use Rattle.pt_session.specs.Rows.{AllDie.{none as none_dies}}
-use Rattle.pt_session.proofs.Cases.{cases}
-use Rattle.pt_session.specs.Tables.{Tables, empty_tables, nothing_agreed}
-use Rattle.pt_session.specs.declared.event.KeptEvent.TheVariants as change
-use Rattle.pt_session.specs.declared.reply.EventRefusal.TheVariants.{Overtaken}
-use Rattle.pt_session.specs.declared.reply.GivenNumber.{GivenNumber}
-use Rattle.pt_session.specs.declared.reply.EventReply.TheVariants as event
+use Rattle.pt_tables.specs.Change.{Change}
+use Rattle.pt_tables.specs.Rows.{AllDie.{none as none_dies}}
+use Rattle.pt_tables.proofs.Cases.{cases}
+use Rattle.pt_tables.specs.Tables.{Tables, empty_tables, nothing_agreed}
+use Rattle.pt_tables.specs.declared.event.KeptEvent.TheVariants as change
+use Rattle.pt_tables.specs.declared.reply.EventRefusal.TheVariants.{Overtaken}
+use Rattle.pt_tables.specs.declared.reply.GivenNumber.{GivenNumber}
+use Rattle.pt_tables.specs.declared.reply.EventReply.TheVariants as event
 use Rattle.pt_frame.specs.Deed.{Changes}
 use Rattle.pt_frame.specs.declared.act.ActReply.TheVariants.{Event}
 use Rattle.pt_law.specs.World.{made, Turn, turn_by, TablesGo, TablesRun}

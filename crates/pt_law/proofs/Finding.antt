@@ -9,12 +9,12 @@ use Rattle.pt_host.specs.declared.flags.OpenFlags.{OpenFlags}
 use Rattle.pt_host.specs.declared.ids.Fd.{Fd}
 use Rattle.pt_host.specs.declared.ids.ObjIds.{ObjIds}
 use Rattle.pt_host.specs.declared.stat.Stat.{Stat}
-use Rattle.pt_session.specs.Tables.{Tables}
-use Rattle.pt_session.proofs.Cases.{cases}
-use Rattle.pt_session.specs.declared.event.NewHandle.{NewHandle}
-use Rattle.pt_session.specs.declared.event.KeptEvent.TheVariants as change
-use Rattle.pt_session.specs.declared.reply.EventReply.TheVariants as event
-use Rattle.pt_session.specs.declared.reply.Resolved.{Resolved}
+use Rattle.pt_tables.specs.Tables.{Tables}
+use Rattle.pt_tables.proofs.Cases.{cases}
+use Rattle.pt_tables.specs.declared.event.NewHandle.{NewHandle}
+use Rattle.pt_tables.specs.declared.event.KeptEvent.TheVariants as change
+use Rattle.pt_tables.specs.declared.reply.EventReply.TheVariants as event
+use Rattle.pt_tables.specs.declared.reply.Resolved.{Resolved}
 use Rattle.pt_frame.specs.Deed.{Step}
 use Rattle.pt_law.specs.Discipline.{Job, JobMoves, Notes, Resolution}
 use Rattle.pt_law.specs.Findings.{OpensIn, IsOpening, IsGiven, IsHandled}

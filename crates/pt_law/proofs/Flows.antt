@@ -2,11 +2,11 @@
 use Rattle.std.proofs.Common.{◌≡◌, ℕ, ◌*◌, Some, None}
 use Rattle.pt_host.specs.Words.{is, total, sum_to}
 use Rattle.pt_host.specs.Call.{Call}
-use Rattle.pt_session.specs.Tables.{Tables}
-use Rattle.pt_session.specs.declared.row.Row.{Row}
-use Rattle.pt_session.specs.declared.row.HandleRow.{HandleRow}
-use Rattle.pt_session.specs.declared.event.KeptEvent.TheVariants as change
-use Rattle.pt_session.specs.declared.reply.EventReply.TheVariants as event
+use Rattle.pt_tables.specs.Tables.{Tables}
+use Rattle.pt_tables.specs.declared.row.Row.{Row}
+use Rattle.pt_tables.specs.declared.row.HandleRow.{HandleRow}
+use Rattle.pt_tables.specs.declared.event.KeptEvent.TheVariants as change
+use Rattle.pt_tables.specs.declared.reply.EventReply.TheVariants as event
 use Rattle.pt_frame.specs.Deed.{Deed, Calls, Changes}
 use Rattle.pt_frame.specs.declared.act.ActReply.{ActReply}
 use Rattle.pt_frame.specs.declared.act.ActReply.TheVariants.{Event, Host, NoCopy}

@@ -4,13 +4,13 @@ use Rattle.pt_host.specs.Words.{Each, Replaces, Replaces.{at, past}, Takes, Take
 use Rattle.pt_host.specs.Tree.{Object, IsObject, IsWellFormed}
 use Rattle.pt_host.specs.declared.ids.Fd.{Fd}
 use Rattle.pt_host.specs.declared.ids.ObjIds.{ObjIds}
-use Rattle.pt_session.specs.Tables.{Tables}
-use Rattle.pt_session.specs.Happens.{new_row}
-use Rattle.pt_session.specs.Rows.{IsRow}
-use Rattle.pt_session.specs.declared.row.Row.{Row}
-use Rattle.pt_session.proofs.Cases.{GivenAgain, cases}
-use Rattle.pt_session.specs.declared.event.KeptEvent.TheVariants as change
-use Rattle.pt_session.specs.declared.reply.EventReply.TheVariants as event
+use Rattle.pt_tables.specs.Tables.{Tables}
+use Rattle.pt_tables.specs.Happens.{new_row}
+use Rattle.pt_tables.specs.Rows.{IsRow}
+use Rattle.pt_tables.specs.declared.row.Row.{Row}
+use Rattle.pt_tables.proofs.Cases.{GivenAgain, cases}
+use Rattle.pt_tables.specs.declared.event.KeptEvent.TheVariants as change
+use Rattle.pt_tables.specs.declared.reply.EventReply.TheVariants as event
 use Rattle.pt_frame.specs.Deed.{Deed, Changes, Step}
 use Rattle.pt_frame.specs.declared.act.ActReply.{ActReply}
 use Rattle.pt_frame.specs.declared.act.ActReply.TheVariants.{Event}

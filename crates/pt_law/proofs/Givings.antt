@@ -3,16 +3,16 @@ use Rattle.std.proofs.Common.{◌≡◌, ◌≢◌, ⊎_elim, inl, inr, ℕ, ◌
 use Rattle.std.proofs.Common.{cond, refl, sym, ap, subst, ◌∙◌, arith, Option, Some, None}
 use Rattle.std.proofs.lemmas.Bool.{cases_eq, cases_Bool}
 use Rattle.pt_host.specs.Words.{is, total, Each, EachTwo, Takes, Takes.{here, there}, Replaces, Replaces.{at, past}}
-use Rattle.pt_session.specs.Change.{Change}
-use Rattle.pt_session.specs.Tables.{Tables, HasNumber, AreApart, Agree}
-use Rattle.pt_session.specs.declared.row.Row.{Row}
-use Rattle.pt_session.specs.Rows.{ChangesRow, number_rows, Dies, NoRow}
-use Rattle.pt_session.specs.Happens.{Happens, ForgetsOne, ForgetsAll, new_row, with_row, agreed}
-use Rattle.pt_session.proofs.Cases.{GivesPin, Case, cases}
-use Rattle.pt_session.specs.declared.form.Negotiated.{Negotiated}
-use Rattle.pt_session.specs.declared.event.KeptEvent.TheVariants as change
-use Rattle.pt_session.specs.declared.reply.EventReply.{EventReply}
-use Rattle.pt_session.specs.declared.reply.EventReply.TheVariants as event
+use Rattle.pt_tables.specs.Change.{Change}
+use Rattle.pt_tables.specs.Tables.{Tables, HasNumber, AreApart, Agree}
+use Rattle.pt_tables.specs.declared.row.Row.{Row}
+use Rattle.pt_tables.specs.Rows.{ChangesRow, number_rows, Dies, NoRow}
+use Rattle.pt_tables.specs.Happens.{Happens, ForgetsOne, ForgetsAll, new_row, with_row, agreed}
+use Rattle.pt_tables.proofs.Cases.{GivesPin, Case, cases}
+use Rattle.pt_tables.specs.declared.form.Negotiated.{Negotiated}
+use Rattle.pt_tables.specs.declared.event.KeptEvent.TheVariants as change
+use Rattle.pt_tables.specs.declared.reply.EventReply.{EventReply}
+use Rattle.pt_tables.specs.declared.reply.EventReply.TheVariants as event
 use Rattle.pt_frame.specs.Deed.{Deed, Changes as Asks, Calls}
 use Rattle.pt_frame.specs.declared.act.ActReply.{ActReply}
 use Rattle.pt_frame.specs.declared.act.ActReply.TheVariants.{Event}
@@ -21,7 +21,7 @@ use Rattle.pt_law.specs.Ledger.{forgotten, given_by, after_one, after_all}
 use Rattle.pt_law.proofs.Ignoring.{IgnoresHandles, handle_dies, unpins_handle}
 use Rattle.pt_law.proofs.Flows.{called, unmade}
 use Rattle.pt_law.proofs.Lists.{total_takes, total_replaces, is_same, is_apart, each_map}
-use Rattle.pt_session.proofs.Dying.{clears}
+use Rattle.pt_tables.proofs.Dying.{clears}
 use Rattle.pt_law.proofs.Effects.{agrees}
 
 -- the row's count where it is live and has the number

@@ -1,13 +1,13 @@
 -- A row that has ended never comes back.
 use Rattle.std.proofs.Common.{◌≡◌, ℕ, List, [], ◌∷◌, sym, ◌∙◌, arith, Option, Some, None}
-use Rattle.pt_session.specs.Tables.{Tables}
-use Rattle.pt_session.specs.declared.row.Row.{Row}
-use Rattle.pt_session.specs.declared.row.HandleRow.{HandleRow}
-use Rattle.pt_session.specs.Effect.{Effect}
-use Rattle.pt_session.specs.Effect.{Effect.{nothing, counted, changed, ended, added, drawn, handle_changed}}
-use Rattle.pt_session.specs.Effect.{Effect.{handle_ended, handle_added, begun, shut}}
-use Rattle.pt_session.specs.Effect.{Effects, Effects.{none, more}}
-use Rattle.pt_session.proofs.Effects.{effects}
+use Rattle.pt_tables.specs.Tables.{Tables}
+use Rattle.pt_tables.specs.declared.row.Row.{Row}
+use Rattle.pt_tables.specs.declared.row.HandleRow.{HandleRow}
+use Rattle.pt_tables.specs.Effect.{Effect}
+use Rattle.pt_tables.specs.Effect.{Effect.{nothing, counted, changed, ended, added, drawn, handle_changed}}
+use Rattle.pt_tables.specs.Effect.{Effect.{handle_ended, handle_added, begun, shut}}
+use Rattle.pt_tables.specs.Effect.{Effects, Effects.{none, more}}
+use Rattle.pt_tables.proofs.Effects.{effects}
 use Rattle.pt_frame.specs.Deed.{Deed, Calls, Changes}
 use Rattle.pt_frame.specs.declared.act.ActReply.{ActReply}
 use Rattle.pt_frame.specs.declared.act.ActReply.TheVariants.{Event}

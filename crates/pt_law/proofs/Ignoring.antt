@@ -1,12 +1,12 @@
 -- What does not look at the rows of numbers, or at those of handles, stays where these change.
 use Rattle.std.proofs.Common.{◌≡◌, inl, inr, ℕ, List, [], ◌∷◌, ap, ◌∙◌}
-use Rattle.pt_session.specs.Tables.{Tables}
-use Rattle.pt_session.specs.declared.row.Row.{Row}
-use Rattle.pt_session.specs.declared.row.HandleRow.{HandleRow}
-use Rattle.pt_session.specs.declared.row.Closing.{Closing}
-use Rattle.pt_session.specs.Rows.{Dies, number_rows, handle_rows}
-use Rattle.pt_session.specs.Happens.{ForgetsOne, ForgetsAll}
-use Rattle.pt_session.proofs.Cases.{GivesPin}
+use Rattle.pt_tables.specs.Tables.{Tables}
+use Rattle.pt_tables.specs.declared.row.Row.{Row}
+use Rattle.pt_tables.specs.declared.row.HandleRow.{HandleRow}
+use Rattle.pt_tables.specs.declared.row.Closing.{Closing}
+use Rattle.pt_tables.specs.Rows.{Dies, number_rows, handle_rows}
+use Rattle.pt_tables.specs.Happens.{ForgetsOne, ForgetsAll}
+use Rattle.pt_tables.proofs.Cases.{GivesPin}
 
 pub record IgnoresRows {X : Type 0} (f : Tables → X) : Type 0 where
   pub changed : (t : Tables) (rows : List Row) → f (record t { rows = rows }) ≡ f t

@@ -3,7 +3,7 @@ use Rattle.std.proofs.Common.{◌≡◌, ◌≢◌, ◌⊎◌, ⊎_elim, inl, in
 use Rattle.std.proofs.Common.{subst, ◌∙◌, arith}
 use Rattle.std.proofs.lemmas.Bool.{cases_eq, cases_lt}
 use Rattle.pt_host.specs.Words.{Each, set_at}
-use Rattle.pt_session.specs.Tables.{Tables}
+use Rattle.pt_tables.specs.Tables.{Tables}
 use Rattle.pt_frame.specs.Deed.{Step}
 use Rattle.pt_law.specs.Discipline.{Job, Disciplined}
 use Rattle.pt_law.specs.World.{Turn, World, IsLawful, Runs, TablesRun, steps_of}

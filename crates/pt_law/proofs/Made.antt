@@ -14,7 +14,7 @@ use Rattle.pt_host.specs.declared.op.KeptHostOp.TheVariants as call
 use Rattle.pt_host.specs.declared.reply.HostReply.TheVariants as host
 use Rattle.pt_host.specs.declared.reply.HostValue.TheVariants as value
 use Rattle.pt_host.specs.declared.stat.Stat.{Stat}
-use Rattle.pt_session.specs.declared.event.NewHandle.{NewHandle}
+use Rattle.pt_tables.specs.declared.event.NewHandle.{NewHandle}
 use Rattle.pt_frame.specs.Deed.{Deed, Calls, Step}
 use Rattle.pt_frame.specs.declared.act.ActReply.{ActReply}
 use Rattle.pt_frame.specs.declared.act.ActReply.TheVariants.{Host}

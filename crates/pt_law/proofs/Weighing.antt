@@ -9,17 +9,17 @@ use Rattle.pt_host.specs.declared.ids.Fd.{Fd}
 use Rattle.pt_host.specs.declared.op.KeptHostOp.TheVariants as call
 use Rattle.pt_host.specs.declared.reply.HostReply.TheVariants as host
 use Rattle.pt_host.specs.declared.reply.HostValue.TheVariants as value
-use Rattle.pt_session.specs.Change.{Change}
-use Rattle.pt_session.specs.Tables.{Tables, Agree, HasNumber, IsSoundRow, empty_tables}
-use Rattle.pt_session.specs.Happens.{Happens}
-use Rattle.pt_session.specs.Rows.{IsRow}
-use Rattle.pt_session.specs.declared.event.KeptEvent.TheVariants as change
-use Rattle.pt_session.specs.declared.reply.EventReply.{EventReply}
-use Rattle.pt_session.specs.declared.reply.EventReply.TheVariants as event
-use Rattle.pt_session.specs.declared.reply.EventRefusal.TheVariants as refused
-use Rattle.pt_session.specs.declared.row.Row.{Row}
-use Rattle.pt_session.proofs.Cases.{Case, cases}
-use Rattle.pt_session.proofs.Dying.{clears}
+use Rattle.pt_tables.specs.Change.{Change}
+use Rattle.pt_tables.specs.Tables.{Tables, Agree, HasNumber, IsSoundRow, empty_tables}
+use Rattle.pt_tables.specs.Happens.{Happens}
+use Rattle.pt_tables.specs.Rows.{IsRow}
+use Rattle.pt_tables.specs.declared.event.KeptEvent.TheVariants as change
+use Rattle.pt_tables.specs.declared.reply.EventReply.{EventReply}
+use Rattle.pt_tables.specs.declared.reply.EventReply.TheVariants as event
+use Rattle.pt_tables.specs.declared.reply.EventRefusal.TheVariants as refused
+use Rattle.pt_tables.specs.declared.row.Row.{Row}
+use Rattle.pt_tables.proofs.Cases.{Case, cases}
+use Rattle.pt_tables.proofs.Dying.{clears}
 use Rattle.pt_iface.specs.declared.answer.Answer.TheVariants as answer
 use Rattle.pt_frame.specs.Deed.{Deed, Calls, Changes, Step}
 use Rattle.pt_frame.specs.Replies.{brought, taken_in}

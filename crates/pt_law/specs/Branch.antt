@@ -2,8 +2,8 @@
 -- to its end: by a branch, as memory ran out, or as its seat was lost.
 use Rattle.std.specs.Prelude.{◌≡◌, ◌⊎◌, true, List, [], ◌∷◌, Option, None, Some}
 use Rattle.pt_host.specs.Sorts.{Sort, OpensWith, EndsFd, OfSeat, Plain, sort_of}
-use Rattle.pt_session.specs.Change.{Change}
-use Rattle.pt_session.specs.declared.event.KeptEvent.TheVariants as change
+use Rattle.pt_tables.specs.Change.{Change}
+use Rattle.pt_tables.specs.declared.event.KeptEvent.TheVariants as change
 use Rattle.pt_iface.specs.declared.answer.Answer.{Answer}
 use Rattle.pt_iface.specs.declared.answer.Answer.TheVariants as answer
 use Rattle.pt_frame.specs.Deed.{Deed, Calls, Changes, Step, IsStepOf}

@@ -3,8 +3,8 @@ use Rattle.std.specs.Prelude.{◌⊎◌, List, Option, Some, None}
 use Rattle.pt_host.specs.Words.{Each}
 use Rattle.pt_host.specs.Promises.{FitsCall, MayLackMemory}
 use Rattle.pt_host.specs.declared.reply.HostReply.TheVariants as host
-use Rattle.pt_session.specs.Tables.{Tables}
-use Rattle.pt_session.specs.Happens.{Happens}
+use Rattle.pt_tables.specs.Tables.{Tables}
+use Rattle.pt_tables.specs.Happens.{Happens}
 use Rattle.pt_frame.specs.Deed.{Deed, Calls, Changes, Step, MayFailToCopy, MayTellBytes}
 use Rattle.pt_frame.specs.declared.act.ActReply.{ActReply}
 use Rattle.pt_frame.specs.declared.act.ActReply.TheVariants.{Event, Host, NoCopy}

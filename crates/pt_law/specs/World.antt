@@ -13,12 +13,12 @@ use Rattle.pt_host.specs.declared.seat.HostSeat.{HostSeat}
 use Rattle.pt_host.specs.declared.op.KeptHostOp.TheVariants as call
 use Rattle.pt_host.specs.declared.reply.HostReply.TheVariants as host
 use Rattle.pt_host.specs.declared.reply.HostValue.TheVariants as value
-use Rattle.pt_session.specs.Tables.{Tables}
-use Rattle.pt_session.specs.Happens.{Happens}
-use Rattle.pt_session.specs.declared.form.RowForm.{RowForm}
-use Rattle.pt_session.specs.declared.form.RowForm.TheVariants.{File}
-use Rattle.pt_session.specs.declared.event.KeptEvent.TheVariants as change
-use Rattle.pt_session.specs.declared.reply.EventReply.TheVariants as event
+use Rattle.pt_tables.specs.Tables.{Tables}
+use Rattle.pt_tables.specs.Happens.{Happens}
+use Rattle.pt_tables.specs.declared.form.RowForm.{RowForm}
+use Rattle.pt_tables.specs.declared.form.RowForm.TheVariants.{File}
+use Rattle.pt_tables.specs.declared.event.KeptEvent.TheVariants as change
+use Rattle.pt_tables.specs.declared.reply.EventReply.TheVariants as event
 use Rattle.pt_frame.specs.Deed.{Deed, Calls, Changes, Step}
 use Rattle.pt_host.specs.Relation.{HostRelation}
 use Rattle.pt_frame.specs.Made.{Made}

@@ -2,7 +2,7 @@
 
 ghost use Rattle.std.specs.Prelude.{◌<◌, ℕ, List};
 ghost use Rattle.pt_host.specs.Words.{Each};
-ghost use Rattle.pt_session.specs.Tables.{Tables, empty_tables};
+ghost use Rattle.pt_tables.specs.Tables.{Tables, empty_tables};
 ghost use Rattle.pt_frame.specs.declared.finish.Finish.{Finish};
 ghost use Rattle.pt_law.specs.Discipline.{ComesToEnd, idle};
 ghost use Rattle.pt_law.specs.Polite.{IsPolite, CountsOutstanding, TakesOneEach};

@@ -2,7 +2,7 @@
 
 ghost use Rattle.std.specs.Prelude.{◌≡◌, List, [], ◌++◌, Option, None};
 ghost use Rattle.pt_host.specs.declared.seat.HostSeat.{HostSeat};
-ghost use Rattle.pt_session.specs.Tables.{Tables};
+ghost use Rattle.pt_tables.specs.Tables.{Tables};
 ghost use Rattle.pt_frame.specs.Deed.{Deed, Step};
 ghost use Rattle.pt_frame.specs.Frame.{CutAfter};
 ghost use Rattle.pt_frame.specs.Grammar.{Belongs};

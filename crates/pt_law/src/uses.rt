@@ -2,13 +2,13 @@
 
 ghost use Rattle.std.specs.Prelude.{◌≡◌, ◌≢◌, ◌⊎◌, ◌<◌, ◌≤◌, ℕ, List, [], ◌∷◌, ◌++◌};
 ghost use Rattle.pt_host.specs.Words.{Each};
-ghost use Rattle.pt_session.specs.Tables.{Tables, Agree, HasNumber, empty_tables};
-ghost use Rattle.pt_session.specs.Rows.{NoRow};
-ghost use Rattle.pt_session.specs.Happens.{Happens};
-ghost use Rattle.pt_session.specs.declared.event.KeptEvent.TheVariants as change;
-ghost use Rattle.pt_session.specs.declared.reply.EventReply.{EventReply};
-ghost use Rattle.pt_session.specs.declared.reply.EventReply.TheVariants as event;
-ghost use Rattle.pt_session.specs.declared.reply.EventRefusal.TheVariants.{NotLive};
+ghost use Rattle.pt_tables.specs.Tables.{Tables, Agree, HasNumber, empty_tables};
+ghost use Rattle.pt_tables.specs.Rows.{NoRow};
+ghost use Rattle.pt_tables.specs.Happens.{Happens};
+ghost use Rattle.pt_tables.specs.declared.event.KeptEvent.TheVariants as change;
+ghost use Rattle.pt_tables.specs.declared.reply.EventReply.{EventReply};
+ghost use Rattle.pt_tables.specs.declared.reply.EventReply.TheVariants as event;
+ghost use Rattle.pt_tables.specs.declared.reply.EventRefusal.TheVariants.{NotLive};
 ghost use Rattle.pt_law.specs.World.{World, Turn, Runs, TablesRun};
 ghost use Rattle.pt_law.specs.Ledger.{inserted};
 ghost use Rattle.pt_law.specs.Laws.{Starts, IsLive, ObjectOf};

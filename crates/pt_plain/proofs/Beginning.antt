@@ -9,18 +9,18 @@ use Rattle.pt_host.specs.declared.ids.Errno.{Errno}
 use Rattle.pt_host.specs.declared.seat.HostSeat.{HostSeat}
 use Rattle.pt_host.specs.declared.stat.Stat.{Stat}
 use Rattle.pt_host.specs.declared.op.KeptHostOp.TheVariants as call
-use Rattle.pt_session.specs.Happens.{agreed as agreed_in, new_row, with_row}
-use Rattle.pt_session.specs.Rows.{IsRow}
-use Rattle.pt_session.specs.Tables.{HasNumber, Tables, nothing_agreed}
-use Rattle.pt_session.specs.declared.row.Row.{Row}
-use Rattle.pt_session.specs.declared.form.Negotiated.{Negotiated}
-use Rattle.pt_session.specs.declared.form.RowForm.TheVariants.{File}
-use Rattle.pt_session.specs.declared.row.HandleRow.{HandleRow}
-use Rattle.pt_session.specs.declared.event.KeptEvent.TheVariants as change
-use Rattle.pt_session.specs.declared.event.NewRoot.{NewRoot}
-use Rattle.pt_session.specs.declared.reply.EventReply.TheVariants as event
-use Rattle.pt_session.proofs.Cases.{cases}
-use Rattle.pt_session.proofs.Dying.{clears}
+use Rattle.pt_tables.specs.Happens.{agreed as agreed_in, new_row, with_row}
+use Rattle.pt_tables.specs.Rows.{IsRow}
+use Rattle.pt_tables.specs.Tables.{HasNumber, Tables, nothing_agreed}
+use Rattle.pt_tables.specs.declared.row.Row.{Row}
+use Rattle.pt_tables.specs.declared.form.Negotiated.{Negotiated}
+use Rattle.pt_tables.specs.declared.form.RowForm.TheVariants.{File}
+use Rattle.pt_tables.specs.declared.row.HandleRow.{HandleRow}
+use Rattle.pt_tables.specs.declared.event.KeptEvent.TheVariants as change
+use Rattle.pt_tables.specs.declared.event.NewRoot.{NewRoot}
+use Rattle.pt_tables.specs.declared.reply.EventReply.TheVariants as event
+use Rattle.pt_tables.proofs.Cases.{cases}
+use Rattle.pt_tables.proofs.Dying.{clears}
 use Rattle.pt_iface.specs.declared.answer.Answer.{Answer}
 use Rattle.pt_iface.specs.declared.answer.Answer.TheVariants as answer
 use Rattle.pt_iface.specs.declared.flags.FsOptions.{FsOptions}

@@ -4,13 +4,13 @@ use Rattle.std.proofs.Common.{◌≡◌, ◌≢◌, ◌⊎◌, inl, inr, ℕ, �
 use Rattle.std.proofs.Common.{sym, ap, subst, ◌∙◌, arith, ⊎_elim}
 use Rattle.std.proofs.lemmas.Bool.{cases_eq}
 use Rattle.pt_host.specs.Words.{is, total, Each}
-use Rattle.pt_session.specs.Change.{Change}
-use Rattle.pt_session.specs.Tables.{Tables, Agree}
-use Rattle.pt_session.specs.Happens.{Happens}
-use Rattle.pt_session.proofs.Cases.{Case, cases}
-use Rattle.pt_session.specs.declared.event.KeptEvent.TheVariants as change
-use Rattle.pt_session.specs.declared.reply.EventReply.{EventReply}
-use Rattle.pt_session.specs.declared.reply.EventReply.TheVariants as event
+use Rattle.pt_tables.specs.Change.{Change}
+use Rattle.pt_tables.specs.Tables.{Tables, Agree}
+use Rattle.pt_tables.specs.Happens.{Happens}
+use Rattle.pt_tables.proofs.Cases.{Case, cases}
+use Rattle.pt_tables.specs.declared.event.KeptEvent.TheVariants as change
+use Rattle.pt_tables.specs.declared.reply.EventReply.{EventReply}
+use Rattle.pt_tables.specs.declared.reply.EventReply.TheVariants as event
 use Rattle.pt_iface.specs.declared.answer.Answer.{Answer}
 use Rattle.pt_iface.specs.declared.answer.Answer.TheVariants as answer
 use Rattle.pt_host.specs.declared.seat.HostSeat.{HostSeat}

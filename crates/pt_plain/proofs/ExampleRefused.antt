@@ -2,8 +2,8 @@
 use Rattle.std.proofs.Common.{◌≡◌, ℕ, ◌+◌, ◌≤◌, Bool, List, [], Option, Some, None, inl, inr, refl, sym, ap, ◌∙◌, arith}
 use Rattle.pt_host.specs.Words.{set_at}
 use Rattle.pt_host.specs.declared.ids.Errno.{Errno}
-use Rattle.pt_session.specs.Tables.{nothing_agreed}
-use Rattle.pt_session.specs.declared.form.Negotiated.{Negotiated}
+use Rattle.pt_tables.specs.Tables.{nothing_agreed}
+use Rattle.pt_tables.specs.declared.form.Negotiated.{Negotiated}
 use Rattle.pt_iface.specs.declared.answer.Answer.TheVariants as answer
 use Rattle.pt_iface.specs.declared.flags.OpenOptions.{OpenOptions}
 use Rattle.pt_iface.specs.declared.request.Extensions.{Extensions}

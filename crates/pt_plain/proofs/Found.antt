@@ -4,8 +4,8 @@ use Rattle.std.proofs.Common.{inr, cond, eqb, arith}
 use Rattle.std.proofs.lemmas.Bool.{cases_Bool, eq-eqb}
 use Rattle.std.proofs.lemmas.Bool.Decides.{eqb_tells}
 use Rattle.pt_host.specs.Words.{Each, EachTwo, Takes, Takes.{here, there}, Replaces, Replaces.{at, past}, set_at}
-use Rattle.pt_session.specs.Tables.{AreHandlesApart, IsSoundHandle}
-use Rattle.pt_session.specs.declared.row.HandleRow.{HandleRow}
+use Rattle.pt_tables.specs.Tables.{AreHandlesApart, IsSoundHandle}
+use Rattle.pt_tables.specs.declared.row.HandleRow.{HandleRow}
 use Rattle.pt_law.proofs.Lists.{each_taken, each_replaced, set_at_other}
 use Rattle.pt_plain.specs.Plain.{Handled}
 use Rattle.pt_plain.proofs.Showing.{found, handled}

@@ -5,13 +5,13 @@ use Rattle.std.proofs.lemmas.Bool.{cases_eq}
 use Rattle.pt_host.specs.Words.{set_at}
 use Rattle.pt_host.specs.declared.ids.Errno.{Errno}
 use Rattle.pt_host.specs.declared.seat.HostSeat.{HostSeat}
-use Rattle.pt_session.specs.Tables.{Tables, IsHandle}
-use Rattle.pt_session.specs.declared.row.HandleRow.{HandleRow}
-use Rattle.pt_session.specs.Rows.{Dies, handle_rows}
-use Rattle.pt_session.specs.declared.form.Negotiated.{Negotiated}
-use Rattle.pt_session.specs.declared.event.KeptEvent.TheVariants as change
-use Rattle.pt_session.specs.declared.reply.EventReply.TheVariants as event
-use Rattle.pt_session.proofs.Cases.{cases}
+use Rattle.pt_tables.specs.Tables.{Tables, IsHandle}
+use Rattle.pt_tables.specs.declared.row.HandleRow.{HandleRow}
+use Rattle.pt_tables.specs.Rows.{Dies, handle_rows}
+use Rattle.pt_tables.specs.declared.form.Negotiated.{Negotiated}
+use Rattle.pt_tables.specs.declared.event.KeptEvent.TheVariants as change
+use Rattle.pt_tables.specs.declared.reply.EventReply.TheVariants as event
+use Rattle.pt_tables.proofs.Cases.{cases}
 use Rattle.pt_iface.specs.declared.answer.Answer.{Answer}
 use Rattle.pt_iface.specs.declared.answer.Answer.TheVariants as answer
 use Rattle.pt_frame.specs.Deed.{Changes}

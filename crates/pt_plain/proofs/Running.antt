@@ -3,10 +3,11 @@ use Rattle.std.proofs.Common.{◌≡◌, ℕ, zero, suc, List, [], ◌∷◌, �
 use Rattle.std.proofs.Common.{refl, sym, ap, subst, ◌∙◌, arith, map, append_assoc, append-nil, cond, eqb}
 use Rattle.std.proofs.lemmas.Bool.{eqb-true, eqb-false}
 use Rattle.pt_host.specs.Words.{Each, Takes.{here, there}}
-use Rattle.pt_session.specs.Rows.{IsRow, IsAmong, NoneOf}
-use Rattle.pt_session.specs.Tables.{HasNumber, HasHandle, empty_tables}
-use Rattle.pt_session.specs.declared.row.Row.{Row}
-use Rattle.pt_session.specs.declared.row.HandleRow.{HandleRow}
+use Rattle.pt_tables.specs.Rows.{IsRow}
+use Rattle.pt_rows.specs.Rows.{IsAmong, NoneOf}
+use Rattle.pt_tables.specs.Tables.{HasNumber, HasHandle, empty_tables}
+use Rattle.pt_tables.specs.declared.row.Row.{Row}
+use Rattle.pt_tables.specs.declared.row.HandleRow.{HandleRow}
 use Rattle.pt_frame.specs.Deed.{Step, LacksMemory}
 use Rattle.pt_frame.specs.Grammar.{Belongs}
 use Rattle.pt_frame.specs.declared.finish.Finish.TheVariants as finish

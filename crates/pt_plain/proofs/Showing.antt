@@ -3,15 +3,15 @@ use Rattle.std.proofs.Common.{◌≡◌, inl, inr, ℕ, zero, suc, ◌+◌, ◌�
 use Rattle.std.proofs.Common.{sym, ap, ◌∙◌, cond, eqb, arith}
 use Rattle.pt_host.specs.Tree.{Tree}
 use Rattle.pt_host.specs.Words.{Takes, Takes.{here, there}, Replaces, Replaces.{at, past}}
-use Rattle.pt_session.specs.Change.{Change}
-use Rattle.pt_session.specs.Tables.{Tables}
-use Rattle.pt_session.specs.Rows.{handle_rows}
-use Rattle.pt_session.specs.declared.form.Negotiated.{Negotiated}
-use Rattle.pt_session.specs.declared.row.HandleRow.{HandleRow}
-use Rattle.pt_session.specs.declared.event.KeptEvent.TheVariants as change
-use Rattle.pt_session.specs.declared.reply.EventReply.{EventReply}
-use Rattle.pt_session.specs.declared.reply.EventReply.TheVariants as event
-use Rattle.pt_session.proofs.Cases.{GivesPin, Case}
+use Rattle.pt_tables.specs.Change.{Change}
+use Rattle.pt_tables.specs.Tables.{Tables}
+use Rattle.pt_tables.specs.Rows.{handle_rows}
+use Rattle.pt_tables.specs.declared.form.Negotiated.{Negotiated}
+use Rattle.pt_tables.specs.declared.row.HandleRow.{HandleRow}
+use Rattle.pt_tables.specs.declared.event.KeptEvent.TheVariants as change
+use Rattle.pt_tables.specs.declared.reply.EventReply.{EventReply}
+use Rattle.pt_tables.specs.declared.reply.EventReply.TheVariants as event
+use Rattle.pt_tables.proofs.Cases.{GivesPin, Case}
 use Rattle.pt_law.specs.World.{World}
 use Rattle.pt_law.proofs.Givings.{live_count}
 use Rattle.pt_law.proofs.Ignoring.{IgnoresRows, unpins, forgets_one, forgets_all}

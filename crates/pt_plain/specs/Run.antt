@@ -2,10 +2,10 @@
 use Rattle.std.specs.Prelude.{◌≡◌, ℕ, suc, List, [], ◌∷◌, ◌++◌, map, Option, Some, None}
 use Rattle.pt_host.specs.Tree.{Tree}
 use Rattle.pt_host.specs.declared.seat.HostSeat.{HostSeat}
-use Rattle.pt_session.specs.Tables.{HasNumber, HasHandle, nothing_agreed}
-use Rattle.pt_session.specs.Rows.{IsRow, NoRow, IsHandleRow, NoHandle}
-use Rattle.pt_session.specs.declared.row.Row.{Row}
-use Rattle.pt_session.specs.declared.row.HandleRow.{HandleRow}
+use Rattle.pt_tables.specs.Tables.{HasNumber, HasHandle, nothing_agreed}
+use Rattle.pt_tables.specs.Rows.{IsRow, NoRow, IsHandleRow, NoHandle}
+use Rattle.pt_tables.specs.declared.row.Row.{Row}
+use Rattle.pt_tables.specs.declared.row.HandleRow.{HandleRow}
 use Rattle.pt_iface.specs.declared.answer.Answer.{Answer}
 use Rattle.pt_frame.specs.Deed.{Step}
 use Rattle.pt_req.specs.declared.plan.Plan.{Plan}

@@ -5,7 +5,7 @@ use Rattle.pt_host.specs.Names.{TakesName, MakesObject, LinksName, Renames}
 use Rattle.pt_host.specs.Edits.{Edits as EditsTree}
 use Rattle.pt_host.specs.Tree.{Tree}
 use Rattle.pt_host.specs.Words.{set_at}
-use Rattle.pt_session.specs.Tables.{nothing_agreed}
+use Rattle.pt_tables.specs.Tables.{nothing_agreed}
 use Rattle.pt_iface.specs.declared.answer.Answer.{Answer}
 use Rattle.pt_iface.specs.declared.answer.Answer.TheVariants as answer
 use Rattle.pt_iface.specs.declared.directory.DirEntry.{DirEntry}

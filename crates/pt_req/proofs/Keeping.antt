@@ -13,13 +13,13 @@ use Rattle.pt_maps.specs.declared.xattr_map.AppliedRule.TheVariants as applied
 use Rattle.pt_maps.specs.declared.xattr_rule.XattrRule.{XattrRule}
 use Rattle.pt_creds.specs.Identity.{Credentials}
 use Rattle.pt_creds.specs.Steps.{cred_steps}
-use Rattle.pt_session.specs.declared.form.RowForm.{RowForm}
-use Rattle.pt_session.specs.declared.form.RowForm.TheVariants.{File}
-use Rattle.pt_session.specs.declared.form.Negotiated.{Negotiated}
+use Rattle.pt_tables.specs.declared.form.RowForm.{RowForm}
+use Rattle.pt_tables.specs.declared.form.RowForm.TheVariants.{File}
+use Rattle.pt_tables.specs.declared.form.Negotiated.{Negotiated}
 use Rattle.pt_iface.specs.declared.answer.Answer.TheVariants as answer
 use Rattle.pt_iface.specs.declared.flags.FsOptions.{FsOptions}
 use Rattle.pt_iface.specs.declared.request.SecContext.{SecContext}
-use Rattle.pt_session.specs.Tables.{nothing_agreed}
+use Rattle.pt_tables.specs.Tables.{nothing_agreed}
 use Rattle.pt_frame.specs.Tree.{RequestTree, Gives, Refuses, Asks, Opens, Bares, Brackets, Shuts, Allocates, on, go_on}
 use Rattle.pt_frame.specs.Tree.{by_bytes}
 use Rattle.pt_frame.specs.Machine.Brings.{brings_of, holds_in, rows_in}
@@ -43,7 +43,7 @@ use Rattle.pt_req.specs.Steps.{begin, session_of}
 use Rattle.pt_req.specs.declared.begun.BegunSession.{BegunSession}
 use Rattle.pt_req.specs.declared.parts.looked.Looked.{Looked}
 use Rattle.pt_req.specs.declared.plan.Plan.{Plan}
-use Rattle.pt_session.specs.declared.reply.Resolved.{Resolved}
+use Rattle.pt_tables.specs.declared.reply.Resolved.{Resolved}
 use Rattle.pt_frame.proofs.Keeping.{sooner}
 
 -- so many more

@@ -10,10 +10,10 @@ use Rattle.pt_host.specs.declared.reply.HostReply.{HostReply}
 use Rattle.pt_host.specs.declared.reply.HostReply.TheVariants as host
 use Rattle.pt_host.specs.declared.reply.HostValue.{HostValue}
 use Rattle.pt_host.specs.declared.reply.HostValue.TheVariants as value
-use Rattle.pt_session.specs.declared.form.Negotiated.{Negotiated}
-use Rattle.pt_session.specs.declared.reply.GivenNumber.{GivenNumber}
-use Rattle.pt_session.specs.declared.reply.Resolved.{Resolved}
-use Rattle.pt_session.specs.declared.reply.EventReply.TheVariants as event
+use Rattle.pt_tables.specs.declared.form.Negotiated.{Negotiated}
+use Rattle.pt_tables.specs.declared.reply.GivenNumber.{GivenNumber}
+use Rattle.pt_tables.specs.declared.reply.Resolved.{Resolved}
+use Rattle.pt_tables.specs.declared.reply.EventReply.TheVariants as event
 use Rattle.pt_iface.specs.declared.answer.Answer.{Answer}
 use Rattle.pt_iface.specs.declared.answer.Answer.TheVariants as answer
 use Rattle.pt_frame.specs.Tree.{RequestTree, Refuses, on, go_on}

@@ -20,10 +20,10 @@ use Rattle.pt_maps.specs.declared.xattr_map.AppliedRule.TheVariants as applied
 use Rattle.pt_maps.specs.declared.xattr_rule.XattrRule.{XattrRule}
 use Rattle.pt_creds.specs.Identity.{Credentials}
 use Rattle.pt_creds.specs.Steps.{cred_steps}
-use Rattle.pt_session.specs.declared.form.RowForm.{RowForm}
-use Rattle.pt_session.specs.declared.form.RowForm.TheVariants.{File}
-use Rattle.pt_session.specs.declared.form.Negotiated.{Negotiated}
-use Rattle.pt_session.specs.declared.event.KeptEvent.TheVariants as change
+use Rattle.pt_tables.specs.declared.form.RowForm.{RowForm}
+use Rattle.pt_tables.specs.declared.form.RowForm.TheVariants.{File}
+use Rattle.pt_tables.specs.declared.form.Negotiated.{Negotiated}
+use Rattle.pt_tables.specs.declared.event.KeptEvent.TheVariants as change
 use Rattle.pt_iface.specs.declared.answer.Answer.{Answer}
 use Rattle.pt_iface.specs.declared.answer.Answer.TheVariants as answer
 use Rattle.pt_iface.specs.declared.flags.FsOptions.{FsOptions}
@@ -39,7 +39,7 @@ use Rattle.pt_frame.specs.declared.act.ActReply.{ActReply}
 use Rattle.pt_frame.specs.declared.act.ActReply.TheVariants.{Event, Host, NoCopy}
 use Rattle.pt_frame.specs.declared.product.Product.{Product}
 use Rattle.pt_frame.specs.declared.product.Product.TheVariants as product
-use Rattle.pt_session.specs.Tables.{nothing_agreed}
+use Rattle.pt_tables.specs.Tables.{nothing_agreed}
 use Rattle.pt_req.specs.Options.{cleaned, inode_flags, is_short_of, agreed_with, init_options, open_options}
 use Rattle.pt_req.specs.Options.{without_nofollow}
 use Rattle.pt_req.specs.Steps.{session_of, began_in, cleared_in, resolved_in, fd_in, gone_in, tried_in, claim_of}
@@ -58,7 +58,7 @@ use Rattle.pt_req.specs.Requests.{unserved}
 use Rattle.pt_req.specs.declared.begun.BegunSession.{BegunSession}
 use Rattle.pt_req.specs.declared.parts.looked.Looked.{Looked}
 use Rattle.pt_req.specs.declared.plan.Plan.{Plan}
-use Rattle.pt_session.specs.declared.reply.Resolved.{Resolved}
+use Rattle.pt_tables.specs.declared.reply.Resolved.{Resolved}
 use Rattle.pt_req.proofs.Replying.{if_began, if_cleared, if_resolved, if_fd, if_stat, if_bytes, if_claimed, if_taken}
 use Rattle.pt_req.proofs.Replying.{if_gone, if_drawn, if_numbered, if_inserted, if_pinned, if_done}
 

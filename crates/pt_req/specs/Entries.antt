@@ -6,7 +6,7 @@ use Rattle.pt_host.specs.Tree.{kind_of}
 use Rattle.pt_host.specs.declared.ids.ObjIds.{ObjIds}
 use Rattle.pt_host.specs.declared.stat.Stat.{Stat}
 use Rattle.pt_maps.specs.Translated.{to_guest}
-use Rattle.pt_session.specs.declared.form.Negotiated.{Negotiated}
+use Rattle.pt_tables.specs.declared.form.Negotiated.{Negotiated}
 use Rattle.pt_iface.specs.declared.entry.Attr.{Attr}
 use Rattle.pt_iface.specs.declared.entry.Entry.{Entry}
 use Rattle.pt_req.specs.declared.plan.Plan.{Plan}

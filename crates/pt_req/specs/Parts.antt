@@ -8,9 +8,9 @@ use Rattle.pt_host.specs.declared.ids.ObjIds.{ObjIds}
 use Rattle.pt_host.specs.declared.seat.HostSeat.{HostSeat}
 use Rattle.pt_host.specs.declared.stat.Stat.{Stat}
 use Rattle.pt_host.specs.declared.flags.OpenFlags.{OpenFlags}
-use Rattle.pt_session.specs.declared.form.RowForm.{RowForm}
-use Rattle.pt_session.specs.declared.form.RowForm.TheVariants.{File}
-use Rattle.pt_session.specs.declared.form.Negotiated.{Negotiated}
+use Rattle.pt_tables.specs.declared.form.RowForm.{RowForm}
+use Rattle.pt_tables.specs.declared.form.RowForm.TheVariants.{File}
+use Rattle.pt_tables.specs.declared.form.Negotiated.{Negotiated}
 use Rattle.pt_iface.specs.declared.answer.Answer.TheVariants as answer
 use Rattle.pt_frame.specs.Tree.{RequestTree, Gives, Bares, Brackets, Shuts}
 use Rattle.pt_req.specs.Capability.{cleared_if, drops_fsetid, without_fsetid}
@@ -19,7 +19,7 @@ use Rattle.pt_req.specs.Steps.{Part, ◌>>=◌, ◌>>◌, resolve, open_root, op
 use Rattle.pt_req.specs.Steps.{draw_handle, insert, insert_root, insert_handle}
 use Rattle.pt_req.specs.Entries.{is_bad_name, is_bad_offset, can_open, entry_of}
 use Rattle.pt_req.specs.declared.begun.BegunSession.{BegunSession}
-use Rattle.pt_session.specs.declared.reply.Resolved.{Resolved}
+use Rattle.pt_tables.specs.declared.reply.Resolved.{Resolved}
 use Rattle.pt_req.specs.declared.parts.looked.Looked.{Looked}
 use Rattle.pt_req.specs.declared.plan.Plan.{Plan}
 

@@ -8,7 +8,7 @@ use Rattle.pt_iface.specs.declared.answer.Answer.{Answer}
 use Rattle.pt_iface.specs.declared.answer.Answer.TheVariants as answer
 use Rattle.pt_iface.specs.declared.flags.FsOptions.{FsOptions}
 use Rattle.pt_frame.specs.Tree.{RequestTree, Gives}
-use Rattle.pt_session.specs.Tables.{nothing_agreed}
+use Rattle.pt_tables.specs.Tables.{nothing_agreed}
 use Rattle.pt_req.specs.Options.{with_bits, is_short_of, agreed_with, init_options, open_options}
 use Rattle.pt_req.specs.Steps.{◌>>=◌, ◌>>◌, session_of, clear, read_at, pin_handle, forget_all, release_handle}
 use Rattle.pt_req.specs.Parts.{named, placed, look_up, open_num, root_open}

@@ -12,15 +12,15 @@ use Rattle.pt_host.specs.declared.flags.OpenFlags.{OpenFlags}
 use Rattle.pt_host.specs.declared.op.KeptHostOp.TheVariants as call
 use Rattle.pt_host.specs.declared.reply.HostReply.TheVariants as host
 use Rattle.pt_host.specs.declared.reply.HostValue.TheVariants as value
-use Rattle.pt_session.specs.declared.form.RowForm.{RowForm}
-use Rattle.pt_session.specs.declared.form.Negotiated.{Negotiated}
-use Rattle.pt_session.specs.declared.event.KeptClaim.{KeptClaim}
-use Rattle.pt_session.specs.declared.event.NewRow.{NewRow}
-use Rattle.pt_session.specs.declared.event.NewRoot.{NewRoot}
-use Rattle.pt_session.specs.declared.event.NewHandle.{NewHandle}
-use Rattle.pt_session.specs.declared.event.KeptEvent.TheVariants as change
-use Rattle.pt_session.specs.declared.reply.Resolved.{Resolved}
-use Rattle.pt_session.specs.declared.reply.EventReply.TheVariants as event
+use Rattle.pt_tables.specs.declared.form.RowForm.{RowForm}
+use Rattle.pt_tables.specs.declared.form.Negotiated.{Negotiated}
+use Rattle.pt_tables.specs.declared.event.KeptClaim.{KeptClaim}
+use Rattle.pt_tables.specs.declared.event.NewRow.{NewRow}
+use Rattle.pt_tables.specs.declared.event.NewRoot.{NewRoot}
+use Rattle.pt_tables.specs.declared.event.NewHandle.{NewHandle}
+use Rattle.pt_tables.specs.declared.event.KeptEvent.TheVariants as change
+use Rattle.pt_tables.specs.declared.reply.Resolved.{Resolved}
+use Rattle.pt_tables.specs.declared.reply.EventReply.TheVariants as event
 use Rattle.pt_iface.specs.declared.answer.Answer.{Answer}
 use Rattle.pt_iface.specs.declared.answer.Answer.TheVariants as answer
 use Rattle.pt_frame.specs.Deed.{Calls, Changes}

@@ -3,7 +3,7 @@
 ghost use Rattle.std.specs.Prelude.{◌≡◌, ℕ, List, Option};
 ghost use Rattle.pt_host.specs.declared.ids.Fd.{Fd};
 ghost use Rattle.pt_host.specs.declared.stat.Stat.{Stat};
-ghost use Rattle.pt_session.specs.declared.reply.Resolved.{Resolved};
+ghost use Rattle.pt_tables.specs.declared.reply.Resolved.{Resolved};
 ghost use Rattle.pt_iface.specs.declared.answer.Answer.{Answer};
 ghost use Rattle.pt_frame.specs.Machine.Walk.{Reads};
 ghost use Rattle.pt_frame.specs.Tree.{RequestTree, on};

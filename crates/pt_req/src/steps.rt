@@ -5,7 +5,7 @@ ghost use Rattle.std.specs.Option.{option_copied};
 ghost use Rattle.pt_host.specs.Call.{call_of};
 ghost use Rattle.pt_host.specs.declared.ids.Fd.{Fd};
 ghost use Rattle.pt_host.specs.declared.stat.Stat.{Stat};
-ghost use Rattle.pt_session.specs.declared.reply.Resolved.{Resolved};
+ghost use Rattle.pt_tables.specs.declared.reply.Resolved.{Resolved};
 ghost use Rattle.pt_iface.specs.declared.answer.Answer.{Answer};
 ghost use Rattle.pt_frame.specs.Machine.Walk.{HasBytes, Reads, bytes_in};
 ghost use Rattle.pt_frame.specs.Tree.{RequestTree};

@@ -12,14 +12,15 @@ use Rattle.pt_rules.specs.State.{State}
 use Rattle.pt_rules.specs.Laws.Determined.{determined as host_determined}
 use Rattle.pt_rules.specs.Laws.Promised.{does_promised}
 use Rattle.pt_tree.specs.declared.spec.TreeLine.{TreeLine}
-use Rattle.pt_session.specs.Rows.{number_rows, handle_rows}
-use Rattle.pt_session.specs.LiveAfter.{IsLiveAbove, IsLiveAfter, IsHandleAfter}
-use Rattle.pt_session.specs.Tables.{Tables, empty_tables, Agree, AreApart, AreHandlesApart, HasNumber, HasHandle}
-use Rattle.pt_session.specs.declared.row.Row.{Row}
-use Rattle.pt_session.specs.declared.row.HandleRow.{HandleRow}
-use Rattle.pt_session.proofs.Alone.{none_taken, takes_one}
-use Rattle.pt_session.proofs.Endings.{number_one, handle_one}
-use Rattle.pt_session.proofs.Lists.{each_taken}
+use Rattle.pt_tables.specs.Rows.{number_rows, handle_rows}
+use Rattle.pt_rows.specs.Above.{IsLiveAbove}
+use Rattle.pt_tables.specs.LiveAfter.{IsLiveAfter, IsHandleAfter}
+use Rattle.pt_tables.specs.Tables.{Tables, empty_tables, Agree, AreApart, AreHandlesApart, HasNumber, HasHandle}
+use Rattle.pt_tables.specs.declared.row.Row.{Row}
+use Rattle.pt_tables.specs.declared.row.HandleRow.{HandleRow}
+use Rattle.pt_rows.proofs.Alone.{none_taken, takes_one}
+use Rattle.pt_tables.proofs.Endings.{number_one, handle_one}
+use Rattle.pt_rows.proofs.Lists.{each_taken}
 use Rattle.pt_iface.specs.declared.answer.Answer.{Answer}
 use Rattle.pt_law.specs.World.{TablesRun}
 use Rattle.pt_law.proofs.Hosts.{hosts_tables}
@@ -66,14 +67,14 @@ pair_same one other a b = λ i. Some (a i, b i)
 lives_one : (tables : Tables) → Agree tables → IsOne (IsLiveAfter tables.rows)
 lives_one tables agree above None None h k = refl
 lives_one tables agree above None (Some found) h k =
-    absurd (none_taken (IsLiveAbove number_rows above) h k.0.1.1 k.0.2)
+    absurd (none_taken (IsLiveAbove number_rows.keyed above) h k.0.1.1 k.0.2)
 lives_one tables agree above (Some found) None h k =
-    absurd (none_taken (IsLiveAbove number_rows above) k h.0.1.1 h.0.2)
+    absurd (none_taken (IsLiveAbove number_rows.keyed above) k h.0.1.1 h.0.2)
 lives_one tables agree above (Some one) (Some other) h k =
     let a : one.0 ≤ k.0.0.number =
-    each_taken (λ (row : Row). IsLiveAbove number_rows above row → one.0 ≤ row.number) k.0.1.1 h.1 k.0.2 in
+    each_taken (λ (row : Row). IsLiveAbove number_rows.keyed above row → one.0 ≤ row.number) k.0.1.1 h.1 k.0.2 in
     let b : other.0 ≤ h.0.0.number =
-    each_taken (λ (row : Row). IsLiveAbove number_rows above row → other.0 ≤ row.number) h.0.1.1 k.1 h.0.2 in
+    each_taken (λ (row : Row). IsLiveAbove number_rows.keyed above row → other.0 ≤ row.number) h.0.1.1 k.1 h.0.2 in
     let c = h.0.3 in
     let d = k.0.3 in
     let e : k.0.0.number ≡ h.0.0.number = omega (arith, a, b, c, d) in
@@ -87,14 +88,14 @@ lives_one tables agree above (Some one) (Some other) h k =
 handles_one : (tables : Tables) → Agree tables → IsOne (IsHandleAfter tables.handles)
 handles_one tables agree above None None h k = refl
 handles_one tables agree above None (Some found) h k =
-    absurd (none_taken (IsLiveAbove handle_rows above) h k.0.1.1 k.0.2)
+    absurd (none_taken (IsLiveAbove handle_rows.keyed above) h k.0.1.1 k.0.2)
 handles_one tables agree above (Some found) None h k =
-    absurd (none_taken (IsLiveAbove handle_rows above) k h.0.1.1 h.0.2)
+    absurd (none_taken (IsLiveAbove handle_rows.keyed above) k h.0.1.1 h.0.2)
 handles_one tables agree above (Some one) (Some other) h k =
     let a : one.0 ≤ k.0.0.handle =
-    each_taken (λ (row : HandleRow). IsLiveAbove handle_rows above row → one.0 ≤ row.handle) k.0.1.1 h.1 k.0.2 in
+    each_taken (λ (row : HandleRow). IsLiveAbove handle_rows.keyed above row → one.0 ≤ row.handle) k.0.1.1 h.1 k.0.2 in
     let b : other.0 ≤ h.0.0.handle =
-    each_taken (λ (row : HandleRow). IsLiveAbove handle_rows above row → other.0 ≤ row.handle) h.0.1.1 k.1 h.0.2 in
+    each_taken (λ (row : HandleRow). IsLiveAbove handle_rows.keyed above row → other.0 ≤ row.handle) h.0.1.1 k.1 h.0.2 in
     let c = h.0.3 in
     let d = k.0.3 in
     let e : k.0.0.handle ≡ h.0.0.handle = omega (arith, a, b, c, d) in

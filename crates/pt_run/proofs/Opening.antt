@@ -20,7 +20,7 @@ use Rattle.pt_rules.specs.State.{State, tree_of}
 use Rattle.pt_rules.specs.Table.{Outcome, answer}
 use Rattle.pt_node.specs.declared.node.Node.{Node}
 use Rattle.pt_rules.specs.Laws.Lawful.{does_lawful}
-use Rattle.pt_session.specs.Tables.{empty_tables}
+use Rattle.pt_tables.specs.Tables.{empty_tables}
 use Rattle.pt_iface.specs.declared.answer.Refusal.{Refusal}
 use Rattle.pt_iface.specs.declared.answer.Refusal.TheVariants as refusal
 use Rattle.pt_req.specs.declared.plan.Config.{Config}

@@ -1,7 +1,7 @@
 -- Lines of pairs that are printed one by one, ascending.
 use Rattle.std.proofs.Common.{◌≡◌, ◌<◌, ℕ, ◌-◌, ◌^◌, List, [], ◌∷◌, ◌++◌, Option, Some, None, ap, subst, sym, arith}
 use Rattle.std.proofs.Common.{◌∙◌, append_assoc, append-nil}
-use Rattle.pt_session.specs.LiveAfter.{IsAbove}
+use Rattle.pt_rows.specs.Above.{IsAbove}
 use Rattle.pt_run.specs.TableLines.{pair_line, pair_lines, AllAbove}
 
 -- how many numbers of 64 bits are above

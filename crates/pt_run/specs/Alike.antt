@@ -1,6 +1,6 @@
 -- Believed. The bytes of a report tell the run.
 use Rattle.std.specs.Prelude.{◌≡◌, ℕ, List, Option}
-use Rattle.pt_session.specs.Tables.{Tables}
+use Rattle.pt_tables.specs.Tables.{Tables}
 use Rattle.pt_rules.specs.State.{State}
 use Rattle.pt_tree.specs.Listing.{listing_of}
 use Rattle.pt_iface.specs.declared.answer.Answer.{Answer}

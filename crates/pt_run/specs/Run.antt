@@ -12,7 +12,7 @@ use Rattle.pt_rules.specs.State.{State, tree_of}
 use Rattle.pt_rules.specs.Does.{Does}
 use Rattle.pt_rules.specs.Faults.{failure_of}
 use Rattle.pt_tree.specs.Listing.{listing_of}
-use Rattle.pt_session.specs.Tables.{Tables, empty_tables}
+use Rattle.pt_tables.specs.Tables.{Tables, empty_tables}
 use Rattle.pt_iface.specs.declared.answer.Answer.{Answer}
 use Rattle.pt_iface.specs.declared.answer.Refusal.{Refusal}
 use Rattle.pt_iface.specs.declared.answer.Refusal.TheVariants as refusal

@@ -1,8 +1,8 @@
 -- Believed. The lines of a report that say what the tables hold.
 use Rattle.std.specs.Prelude.{ℕ, List, [], ◌∷◌, ◌++◌, Option, Some, None, codes}
-use Rattle.pt_session.specs.declared.row.Row.{Row}
-use Rattle.pt_session.specs.declared.row.HandleRow.{HandleRow}
-use Rattle.pt_session.specs.LiveAfter.{IsLiveAfter, IsHandleAfter}
+use Rattle.pt_tables.specs.declared.row.Row.{Row}
+use Rattle.pt_tables.specs.declared.row.HandleRow.{HandleRow}
+use Rattle.pt_tables.specs.LiveAfter.{IsLiveAfter, IsHandleAfter}
 use Rattle.pt_show.specs.Texts.{number_text, ended}
 use Rattle.pt_show.specs.SessionTexts.{pair_text}
 

@@ -1,7 +1,7 @@
 //! What holds of every event of the table, as functions that do nothing.
-ghost use Rattle.pt_session.specs.Determined.{EventsAreDetermined};
-ghost use Rattle.pt_session.specs.Laws.{EventsKeepAgreement, NewTablesAgree, RefusalsChangeNothing};
-ghost use Rattle.pt_session.specs.Laws.{EventsAreAnswered, ClosingsArePaid, EventsHaveEffects, ClearingsClear};
+ghost use Rattle.pt_tables.specs.Determined.{EventsAreDetermined};
+ghost use Rattle.pt_tables.specs.Laws.{EventsKeepAgreement, NewTablesAgree, RefusalsChangeNothing};
+ghost use Rattle.pt_tables.specs.Laws.{EventsAreAnswered, ClosingsArePaid, EventsHaveEffects, ClearingsClear};
 
 /// An event leads from tables that agree to tables that agree, and new ones do.
 pub fn events_keep_agreement()

@@ -1,29 +1,15 @@
-//! The session's tables, and the events that change them one at a time.
+//! The session: the tables behind one type, which agree after every event, and what holds of every event.
 #![tactic(auto)]
 
-mod clearing;
-mod event;
-mod events;
-mod form;
-mod giving;
-mod handling;
 mod laws;
-mod objects;
-mod pinned;
-mod reply;
-mod row;
-mod rows;
 mod session;
-mod store;
-mod tables;
-mod taking;
 
-pub use event::{Claim, Event, ForgetPairs, KeptClaim, KeptEvent, NewHandle, NewRoot, NewRow};
-pub use form::{Negotiated, RowForm};
 pub use laws::{
     clearings_clear, closings_are_paid, events_are_answered, events_are_determined,
     events_have_effects, events_keep_agreement, refusals_change_nothing,
 };
-pub use reply::{EventRefusal, EventReply, GivenNumber, Resolved};
-pub use row::{Closing, HandleRow, Row};
+pub use pt_tables::{
+    Claim, Closing, Event, EventRefusal, EventReply, ForgetPairs, GivenNumber, HandleRow,
+    KeptClaim, KeptEvent, Negotiated, NewHandle, NewRoot, NewRow, Resolved, Row, RowForm,
+};
 pub use session::Session;

@@ -1,13 +1,11 @@
 ghost use Rattle.std.specs.Prelude.{◌≡◌, ◌↔◌, IsTrue};
-ghost use Rattle.pt_session.specs.Change.{change_of};
-ghost use Rattle.pt_session.specs.Tables.{Agree, empty_tables};
-ghost use Rattle.pt_session.specs.Happens.{Happens};
-ghost use Rattle.pt_session.specs.LiveAfter.{IsLiveAfter, IsHandleAfter};
-ghost use Rattle.pt_session.specs.Pending.{all_pending, AddsUp};
+ghost use Rattle.pt_tables.specs.Change.{change_of};
+ghost use Rattle.pt_tables.specs.Tables.{Agree, empty_tables};
+ghost use Rattle.pt_tables.specs.Happens.{Happens};
+ghost use Rattle.pt_tables.specs.LiveAfter.{IsLiveAfter, IsHandleAfter};
+ghost use Rattle.pt_tables.specs.Pending.{all_pending, AddsUp};
 
-use crate::event::Event;
-use crate::reply::EventReply;
-use crate::tables::SessionTables;
+use pt_tables::{Event, EventReply, SessionTables};
 use std::alloc::Global;
 use std::marker::Model;
 
@@ -18,8 +16,8 @@ pub struct Session {
 }
 
 impl Model for Session {
-    ghost use Rattle.pt_session.specs.Tables.{Tables, Agree};
-    ghost use Rattle.pt_session.specs.Kept.{tables_of};
+    ghost use Rattle.pt_tables.specs.Tables.{Tables, Agree};
+    ghost use Rattle.pt_tables.specs.Kept.{tables_of};
 
     ghost Value = { Tables };
 

@@ -5,14 +5,14 @@ use Rattle.pt_host.specs.declared.ids.Errno.{Errno}
 use Rattle.pt_host.specs.declared.op.KeptHostOp.{KeptHostOp}
 use Rattle.pt_host.specs.declared.reply.HostReply.{HostReply}
 use Rattle.pt_host.specs.declared.reply.HostReply.TheVariants as host
-use Rattle.pt_session.specs.declared.event.KeptEvent.{KeptEvent}
-use Rattle.pt_session.specs.declared.reply.EventReply.{EventReply}
-use Rattle.pt_session.specs.declared.reply.EventReply.TheVariants as reply
+use Rattle.pt_tables.specs.declared.event.KeptEvent.{KeptEvent}
+use Rattle.pt_tables.specs.declared.reply.EventReply.{EventReply}
+use Rattle.pt_tables.specs.declared.reply.EventReply.TheVariants as reply
 use Rattle.pt_frame.specs.declared.act.KeptAct.{KeptAct}
 use Rattle.pt_frame.specs.declared.act.KeptAct.TheVariants as act
 use Rattle.pt_frame.specs.declared.act.ActReply.{ActReply}
 use Rattle.pt_frame.specs.declared.act.ActReply.TheVariants as told
-use Rattle.pt_session.specs.declared.reply.EventRefusal.{EventRefusal}
+use Rattle.pt_tables.specs.declared.reply.EventRefusal.{EventRefusal}
 use Rattle.pt_show.specs.Texts.{word, signed_digits}
 use Rattle.pt_show.specs.HostTexts.{call_text, errno_text, host_reply_text}
 use Rattle.pt_show.specs.SessionTexts.{event_text, event_reply_text}

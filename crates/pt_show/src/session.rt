@@ -1,6 +1,6 @@
 ghost use Rattle.std.specs.Prelude.{◌≡◌, ◌++◌, OnOk};
-ghost use Rattle.pt_session.specs.Change.{change_of};
-ghost use Rattle.pt_session.specs.declared.event.KeptEvent.TheVariants as event;
+ghost use Rattle.pt_tables.specs.Change.{change_of};
+ghost use Rattle.pt_tables.specs.declared.event.KeptEvent.TheVariants as event;
 ghost use Rattle.pt_show.specs.SessionTexts.{form_text, row_text, negotiated_text, pair_text, forgets_text};
 ghost use Rattle.pt_show.specs.SessionTexts.{event_text, refusal_text, event_reply_text};
 

@@ -1,5 +1,5 @@
 ghost use Rattle.std.specs.Prelude.{◌≡◌, ℕ, IfOk, IfSome, length};
-ghost use Rattle.pt_session.specs.Tables.{empty_tables};
+ghost use Rattle.pt_tables.specs.Tables.{empty_tables};
 ghost use Rattle.pt_fs.specs.Jobs.{StartAll, job_start};
 ghost use Rattle.pt_host.specs.Seat.{IsStartingSeat};
 

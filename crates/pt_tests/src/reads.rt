@@ -1,5 +1,5 @@
 ghost use Rattle.std.specs.Prelude.{◌≡◌, ◌≤◌, ℕ, IfOk, length};
-ghost use Rattle.pt_session.specs.Tables.{empty_tables};
+ghost use Rattle.pt_tables.specs.Tables.{empty_tables};
 
 use crate::one_directory::a_seat;
 use pt_fs::{DriveError, Driven, PassthroughFs, drive};

@@ -1,7 +1,7 @@
 //! A run that stops since its record is full.
 
 ghost use Rattle.std.specs.Prelude.{◌≡◌, ℕ};
-ghost use Rattle.pt_session.specs.Tables.{empty_tables};
+ghost use Rattle.pt_tables.specs.Tables.{empty_tables};
 
 use crate::drives::{belong_to, four_jobs, made};
 use crate::one_directory::a_host;

@@ -4,7 +4,7 @@ use Rattle.std.specs.Prelude.{ℕ, if◌then◌else◌, List, [], Option, Some, 
 use Rattle.std.specs.List.{flat_map}
 use Rattle.pt_maps.specs.MappedNames.{names_of_list, nul_ended, server_list}
 use Rattle.pt_maps.specs.declared.xattr_rule.XattrRule.{XattrRule}
-use Rattle.pt_session.specs.declared.form.Negotiated.{Negotiated}
+use Rattle.pt_tables.specs.declared.form.Negotiated.{Negotiated}
 use Rattle.pt_iface.specs.declared.directory.DirEntry.{DirEntry}
 use Rattle.pt_handles.specs.Dirents.{dirents_in, is_listing}
 use Rattle.pt_handles.specs.Record.{Dirent}

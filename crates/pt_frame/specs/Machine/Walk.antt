@@ -10,7 +10,7 @@ use Rattle.pt_iface.specs.declared.answer.Answer.TheVariants as answer
 use Rattle.pt_iface.specs.declared.answer.GetxattrReply.TheVariants as xattr
 use Rattle.pt_iface.specs.declared.answer.ListxattrReply.TheVariants as xattrs
 use Rattle.pt_iface.specs.declared.directory.DirEntry.{DirEntry}
-use Rattle.pt_session.specs.declared.event.KeptEvent.TheVariants as change
+use Rattle.pt_tables.specs.declared.event.KeptEvent.TheVariants as change
 use Rattle.pt_frame.specs.Deed.{Deed, Calls, Changes, deed_of}
 use Rattle.pt_frame.specs.Replies.{bytes_of}
 use Rattle.pt_frame.specs.Tree.{RequestTree, Gives, Refuses, Asks, Opens, Bares, Brackets, Shuts, Allocates}

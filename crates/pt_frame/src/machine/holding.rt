@@ -2,7 +2,7 @@ ghost use Rattle.std.specs.Prelude.{◌≡◌, ◌+◌, ◌≤◌, ◌<◌, ℕ,
 ghost use Rattle.pt_host.specs.Call.{call_of};
 ghost use Rattle.pt_host.specs.Sorts.{OpensWith};
 ghost use Rattle.pt_host.specs.declared.flags.OpenFlags.{OpenFlags};
-ghost use Rattle.pt_session.specs.Change.{change_of};
+ghost use Rattle.pt_tables.specs.Change.{change_of};
 ghost use Rattle.pt_frame.specs.Deed.{deed_of, Calls, Changes};
 ghost use Rattle.pt_frame.specs.Held.{held, held_called, laid, row_fd, fd_in, is_some_fd, is_same_fd, closed};
 ghost use Rattle.pt_frame.specs.Held.{slotted};

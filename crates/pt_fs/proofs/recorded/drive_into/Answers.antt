@@ -1,7 +1,7 @@
 use Rattle.std.proofs.Common.{◌≡◌, length, ◌∙◌, ap, ◌++◌, [], refl, arith}
 use Rattle.std.proofs.lemmas.List.{length-map}
 use Rattle.std.proofs.lemmas.Option.{slice_get_within}
-use Rattle.pt_session.specs.Pending.{pending_in}
+use Rattle.pt_tables.specs.Pending.{pending_in}
 use Rattle.pt_law.proofs.Hosts.{Tells}
 use Rattle.pt_fs.specs.Went.{run_seat}
 use Rattle.pt_fs.specs.Trace.{seated}

@@ -1,6 +1,6 @@
 use Rattle.std.proofs.Common.{ap}
 use Rattle.pt_host.specs.Call.{call_of}
-use Rattle.pt_session.specs.Change.{change_of}
+use Rattle.pt_tables.specs.Change.{change_of}
 use Rattle.pt_frame.specs.Deed.{deed_of}
 use Rattle.pt_fs.proofs.Advancing.{called, happened}
 use Rattle.pt_fs.proofs.step.make_from.Goals as goal

@@ -1,5 +1,5 @@
 use Rattle.std.specs.Prelude.{codes}
-use Rattle.pt_session.specs.LiveAfter.{IsHandleAfter}
+use Rattle.pt_tables.specs.LiveAfter.{IsHandleAfter}
 use Rattle.pt_run.proofs.PairLines.{above_count, SoFar}
 use Rattle.pt_run.proofs.table_lines.push_handles.Given as goal
 

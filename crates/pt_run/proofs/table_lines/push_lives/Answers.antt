@@ -1,6 +1,7 @@
 use Rattle.std.proofs.Common.{ℕ, subst, arith}
 use Rattle.std.specs.Prelude.{codes}
-use Rattle.pt_session.specs.LiveAfter.{IsAbove, IsLiveAfter}
+use Rattle.pt_rows.specs.Above.{IsAbove}
+use Rattle.pt_tables.specs.LiveAfter.{IsLiveAfter}
 use Rattle.pt_run.proofs.PairLines.{above_count-smaller, one_more, all_of}
 use Rattle.pt_run.proofs.table_lines.push_lives.Goals as goal
 

@@ -1,4 +1,4 @@
-use Rattle.pt_session.proofs.Replies.{pays}
+use Rattle.pt_tables.proofs.Replies.{pays}
 use Rattle.pt_session.proofs.laws.closings_are_paid.Goals as goal
 
 pub returns : goal.returns

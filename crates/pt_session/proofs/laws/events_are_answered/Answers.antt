@@ -1,4 +1,4 @@
-use Rattle.pt_session.proofs.Replies.{answered}
+use Rattle.pt_tables.proofs.Replies.{answered}
 use Rattle.pt_session.proofs.laws.events_are_answered.Goals as goal
 
 pub returns : goal.returns

@@ -1,4 +1,4 @@
-use Rattle.pt_session.proofs.Effects.{keeps_agree}
+use Rattle.pt_tables.proofs.Effects.{keeps_agree}
 use Rattle.pt_session.proofs.session.Session.event.Goals as goal
 
 pub invariant_of-self : goal.invariant_of-self

@@ -1,0 +1,5 @@
+-- Inner. The files of definitions, lowest first.
+pub mod Rows
+pub mod Above
+pub mod Same
+pub mod Index

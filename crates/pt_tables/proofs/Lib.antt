@@ -1,0 +1,13 @@
+pub mod Orders
+pub mod Finding
+pub mod Storing
+pub mod Cases
+pub mod KeptRows
+pub mod Dying
+pub mod Slots
+pub mod Forgetting
+pub mod Effects
+pub mod Replies
+pub mod Outcomes
+pub mod Endings
+pub mod Determined

@@ -1,0 +1,22 @@
+//! The session's tables as they are kept, and the events that change them one at a time.
+#![tactic(auto)]
+
+mod clearing;
+mod event;
+mod events;
+mod form;
+mod giving;
+mod handling;
+mod objects;
+mod reply;
+mod row;
+mod store;
+mod tables;
+mod taking;
+
+pub use event::{Claim, Event, ForgetPairs, KeptClaim, KeptEvent, NewHandle, NewRoot, NewRow};
+pub use form::{Negotiated, RowForm};
+pub use reply::{EventRefusal, EventReply, GivenNumber, Resolved};
+pub use row::{Closing, HandleRow, Row};
+pub use store::RowStore;
+pub use tables::SessionTables;

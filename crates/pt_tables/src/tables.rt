@@ -1,0 +1,134 @@
+ghost use Rattle.std.specs.Prelude.{◌≡◌, true, ◌↔◌, IsTrue};
+ghost use Rattle.pt_tables.specs.Tables.{empty_tables};
+ghost use Rattle.pt_rows.specs.Same.{IsSame};
+ghost use Rattle.pt_tables.specs.Rows.{number_rows, ChangesRow, EndsRow, Dies};
+ghost use Rattle.pt_rows.specs.Rows.{IsAmong};
+ghost use Rattle.pt_tables.specs.Happens.{Happens, agreed};
+ghost use Rattle.pt_tables.specs.Pending.{AddsUp};
+ghost use Rattle.pt_tables.specs.Kept.{tables_of};
+
+use crate::event::KeptEvent;
+use crate::form::Negotiated;
+use crate::reply::{EventRefusal, EventReply};
+use crate::row::Row;
+use crate::store::RowStore;
+use std::alloc::Global;
+
+/// The tables as they are kept.
+#[derive(Drop)]
+pub struct SessionTables {
+    pub era: u64,
+    pub next_number: u64,
+    pub next_handle: u64,
+    pub next_row: u64,
+    pub slots: u64,
+    pub limit: u64,
+    pub negotiated: Negotiated,
+    pub store: RowStore,
+}
+
+impl SessionTables {
+    pub fn new(alloc: Global, limit: u64) -> SessionTables
+        ensures { tables_of result ≡ empty_tables limit }
+    {
+        SessionTables {
+            era: 0,
+            next_number: 2,
+            next_handle: 0,
+            next_row: 0,
+            slots: limit,
+            limit,
+            negotiated: Negotiated::NONE,
+            store: RowStore::new(alloc),
+        }
+    }
+
+    /// Puts the row as it is now in its place.
+    pub fn change(&mut self, was: &Row, now: Row)
+        requires among { IsAmong was.now self.old.store.rows }
+        requires same { IsSame number_rows.keyed was.now now }
+        requires object { now.ids ≡ was.now.ids }
+        ensures { ChangesRow number_rows (tables_of self.old) was.now now (tables_of self.new) }
+    {
+        self.store.replace(was, now);
+    }
+
+    /// Ends the row: its descriptor is to be closed.
+    pub fn end(&mut self, row: &Row)
+        requires { IsAmong row.now self.old.store.rows }
+        ensures { EndsRow number_rows (tables_of self.old) row.now (tables_of self.new) }
+    {
+        self.store.end(row);
+    }
+
+    /// Lets a live row die, and tells how many descriptors are to be closed for it.
+    pub fn kill(&mut self, row: &Row) -> u64
+        requires among { IsAmong row.now self.old.store.rows }
+        requires live { row.now.live ≡ true }
+        ensures { Dies number_rows (tables_of self.old) row.now result (tables_of self.new) }
+    {
+        if row.pins == 0 {
+            self.end(row);
+            1
+        } else {
+            self.store.bury(row);
+            0
+        }
+    }
+
+    /// Keeps what was agreed on, if it is said.
+    pub fn agree(&mut self, negotiated: Option<Negotiated>)
+        ensures { tables_of self.new ≡ agreed negotiated (tables_of self.old) }
+    {
+        if let Some(negotiated) = negotiated {
+            self.negotiated = negotiated;
+        }
+    }
+
+    pub fn take_fd(&mut self) -> EventReply
+        ensures { Happens (tables_of self.old) KeptEvent.TakeFd result (tables_of self.new) }
+    {
+        if self.slots == 0 {
+            return EventReply::Refused(EventRefusal::NoSlot);
+        }
+        self.slots -= 1;
+        EventReply::Taken
+    }
+
+    pub fn give_fd(&mut self) -> EventReply
+        ensures { Happens (tables_of self.old) KeptEvent.GiveFd result (tables_of self.new) }
+    {
+        if self.slots >= self.limit {
+            return EventReply::Refused(EventRefusal::NotLive);
+        }
+        self.slots += 1;
+        EventReply::Given
+    }
+
+    pub fn draw_node(&mut self) -> EventReply
+        ensures { Happens (tables_of self.old) KeptEvent.DrawNode result (tables_of self.new) }
+    {
+        let number = self.next_number;
+        if number == u64::MAX {
+            return EventReply::Refused(EventRefusal::Last);
+        }
+        self.next_number += 1;
+        EventReply::Drawn { number }
+    }
+
+    pub fn take_closing(&mut self) -> EventReply
+        ensures { Happens (tables_of self.old) KeptEvent.TakeClosing result (tables_of self.new) }
+    {
+        match self.store.take_closing() {
+            None => EventReply::Refused(EventRefusal::NotLive),
+            Some(closing) => EventReply::Closing(closing),
+        }
+    }
+
+    /// Whether the slots that are left and those that are held are all that there are.
+    pub fn adds_up(&self) -> bool
+        ensures { IsTrue result ↔ AddsUp (tables_of self.now) }
+    {
+        self.slots <= self.limit && self.store.slots() as u64 == self.limit - self.slots
+    }
+}
