@@ -63,6 +63,7 @@ is_run {does = does} {plan = plan} {jobs = jobs} {trace = trace} {answers = answ
       entries = told.entries;
       two_lookups = told.two_lookups;
       origins = told.origins;
+      plain = told.plain;
       names_open = told.named;
       descriptors = told.descriptors;
       leaves_open = told.leaves;

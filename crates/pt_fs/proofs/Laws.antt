@@ -124,7 +124,7 @@ stops_ends plan seat asked steps t (inl lost) = comes_ends plan seat asked steps
 stops_ends plan seat asked steps t (inr gone) =
     comes_ends plan seat asked steps (finish.Answer answer.Cut) t (inr (gone.0, gone.1, gone.2, gone.3))
 
-comes_to_end : (plan : Plan) (job : Job) (steps : List Step) (told : Answer) → AllMayBeTold steps →
+pub comes_to_end : (plan : Plan) (job : Job) (steps : List Step) (told : Answer) → AllMayBeTold steps →
     Comes plan job steps told → ComesToEnd idle steps (finish.Answer told)
 comes_to_end plan job steps told t (inl b) =
     comes_ends plan (job_start job) (asked_of job) steps (finish.Answer told) t (inl b)

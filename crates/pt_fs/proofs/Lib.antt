@@ -18,8 +18,8 @@ pub mod Ended
 pub mod Advancing
 pub mod SeatsAt
 pub mod Memory
-pub mod Uncalled
 pub mod Laws
+pub mod Plainly
 pub mod Objects
 pub mod Leads
 pub mod Seated

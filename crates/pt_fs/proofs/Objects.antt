@@ -2,7 +2,9 @@
 use Rattle.std.proofs.Common.{◌≡◌, ◌⊎◌, inl, inr, ◌++◌, ◌∙◌, ℕ, Bool, List, [], ◌∷◌, Option, Some, ap, subst, refl}
 use Rattle.std.proofs.Common.{length, append_assoc, sym}
 use Rattle.pt_host.specs.Tree.{Tree, IsWellFormed}
+use Rattle.pt_tables.specs.Rows.{IsRow}
 use Rattle.pt_tables.specs.Tables.{Tables, empty_tables}
+use Rattle.pt_tables.specs.declared.row.Row.{Row}
 use Rattle.pt_iface.specs.declared.answer.Answer.{Answer}
 use Rattle.pt_iface.specs.declared.answer.Answer.TheVariants as answer
 use Rattle.pt_iface.specs.declared.entry.Entry.{Entry}
@@ -48,13 +50,17 @@ use Rattle.pt_fit.proofs.Entries.{EntryBy, entry_asked}
 use Rattle.pt_fit.proofs.LookedUp.{IsLookedUp}
 use Rattle.pt_fit.proofs.Making.{created_parts}
 use Rattle.pt_fs.specs.Jobs.{job_start, job_grammar, asked_of}
+use Rattle.pt_fs.specs.Trace.{steps_by}
 use Rattle.pt_fs.specs.Keeps.{turn_of, turns_of, AfterEachTold, LeadsOn, begins_in, KeepsObjects, ServesEach}
 use Rattle.pt_fs.specs.Keeps.{OfEachJob, IsNamedIn, NamesOpenOnes, LeavesOpen, AgreeOnNumbers}
+use Rattle.pt_fs.specs.Plain.{ServesPlain}
 use Rattle.pt_fs.specs.declared.job.Job.{Job}
 use Rattle.pt_fs.specs.declared.trace.TraceStep.{TraceStep}
-use Rattle.pt_fs.proofs.Laws.{Comes, Ran, host_runs, steps_same, ended_of, turns-append, cut_at}
-use Rattle.pt_fs.proofs.Uncalled.{AreUncalled, formed, uncalled_front, uncalled_at, no_rows, no_handles, keeps_none}
-use Rattle.pt_fs.proofs.Uncalled.{leaves_none, names_none, no_call, no_objects, none_anew, unobjected}
+use Rattle.pt_fs.proofs.Ended.{belongs_by}
+use Rattle.pt_fs.proofs.Laws.{Comes, Ran, comes_to_end, host_runs, steps_same, ended_of, turns-append, cut_at}
+use Rattle.pt_fs.proofs.Plainly.{served_plainly}
+use Rattle.pt_plain.proofs.Uncalled.{AreUncalled, formed, uncalled_front, uncalled_at, no_rows, no_handles, keeps_none}
+use Rattle.pt_plain.proofs.Uncalled.{leaves_none, names_none, no_call, no_objects, none_anew}
 
 -- those that speak of objects, over a host that tells its tree
 pub record KeepsTold (plan : Plan) (jobs : List Job) (told : Option Tree) (tables : Tables) (trace : List TraceStep)
@@ -69,6 +75,7 @@ pub record KeepsTold (plan : Plan) (jobs : List Job) (told : Option Tree) (table
   pub entries : OfEachJob jobs answers (IsNamedIn plan told tables trace)
   pub two_lookups : AgreeOnNumbers told tables trace
   pub origins : AfterEachTold told tables trace (λ start so_far now. ComeFromNames now)
+  pub plain : ServesPlain plan jobs told tables trace answers
 
 -- a run that was answered with an entry opened a name
 no_entry : (plan : Plan) (turns : List Turn) (j parent : ℕ) (name : List ℕ) (entry : Entry) (era : ℕ)
@@ -163,6 +170,13 @@ entered_by limit plan jobs told tables trace begins disciplined known j job (ans
 entered_by limit plan jobs told tables trace begins disciplined known j job (answer.Created entry handle options) may
     (inr stops) = let no : answer.Created entry handle options ≡ answer.Cut = stops.0 in absurd (cc)
 entered_by limit plan jobs told tables trace begins disciplined known j job given may b = tt
+
+-- where there is no row, none has an object
+unobjected : (now : World) → ((row : Row) → IsRow now.tables row → ⊥) → KeepsObjects now
+unobjected now none = record {
+  distinct = λ number other live also apart. absurd (none live.0 live.1);
+  open_on = λ row at. absurd (none row at);
+}
 
 -- what holds in the world in which the run begins, after the steps so far and the world to which they led
 module _ (limit bound : ℕ) (start now : World) (trace so_far rest : List TraceStep)
@@ -285,6 +299,17 @@ keeps_told does tree faults p tells plan limit jobs host tables trace answers ho
       origins = λ t is so_far rest now e r.
           named_before limit bound (begins_in t tables) now trace so_far rest (ran.begins, refl, refl) (known t is) e
           disciplined r;
+      plain = λ ends found t is end r.
+          served_plainly plan limit jobs trace answers (begins_in t tables) end
+          (record { tables = ran.begins; past = refl; story = refl }) disciplined
+          (λ j job given at told_at.
+          let b = belongs_by plan job (steps_by j trace) given
+          (ends.answers_each.in_pattern j job given at told_at) in (
+            comes_to_end plan job (steps_by j trace) given
+                (subst AllMayBeTold (steps_same j trace)
+                (hosts_told does faults p j (turns_of trace) host tables host' tables' runs)) (inl b),
+            b,
+          )) ends found r;
       distinct = λ t is so_far rest now e r.
           objects_kept limit bound (begins_in t tables) now trace so_far rest (ran.begins, refl, refl) (known t is) e
           disciplined r;

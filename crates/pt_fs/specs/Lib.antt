@@ -17,7 +17,8 @@ pub mod GoesOn
 pub mod Recorded
 pub mod Stopped
 pub mod Keeps
-pub mod Run
 pub mod Ends
-pub mod Loses
 pub mod Determined
+pub mod Plain
+pub mod Run
+pub mod Loses

@@ -13,6 +13,7 @@ use Rattle.pt_fs.specs.Keeps.{turns_of, AfterEach, AfterEachTold, ReachesEach, L
 use Rattle.pt_fs.specs.Keeps.{KeepsHandles, KeepsOptions, ServesEach, InsertsOnce, OvertakenAsTold, ShutsOut}
 use Rattle.pt_fs.specs.Keeps.{OfEachJob, GivesAllBack, IsCausedIn, RanOutIn, IsNamedIn, AgreeOnNumbers, NamesOpenOnes}
 use Rattle.pt_fs.specs.Keeps.{LeavesOpen, HonoursEach, SeatedEach, ServesPolite}
+use Rattle.pt_fs.specs.Plain.{ServesPlain}
 use Rattle.pt_fs.specs.Trace.{RunsJobs, SeatsBack, IsBounded, room_of}
 use Rattle.pt_fs.specs.declared.job.Job.{Job}
 use Rattle.pt_fs.specs.declared.trace.TraceStep.{TraceStep}
@@ -96,6 +97,9 @@ pub record IsRun
   pub entries : OfEachJob jobs answers (IsNamedIn plan told tables trace)
   pub two_lookups : AgreeOnNumbers told tables trace
   pub origins : AfterEachTold told tables trace (λ start so_far now. ComeFromNames now)
+  -- Where the jobs ran whole, one after another, and no memory was wanting, what was asked and how it was answered is
+  -- what a plain file system serves, and at the end it has what the host and the tables have.
+  pub plain : ServesPlain plan jobs told tables trace answers
   -- Each call names only open descriptors; each open one stands in one place; at the end those of the rows are left,
   -- and those from before.
   pub names_open : NamesOpenOnes told tables trace

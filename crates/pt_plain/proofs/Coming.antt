@@ -6,7 +6,9 @@ use Rattle.pt_host.specs.Tree.{Tree, IsWellFormed}
 use Rattle.pt_host.specs.Words.{Each, set_at}
 use Rattle.pt_host.specs.declared.ids.Errno.{Errno}
 use Rattle.pt_host.specs.declared.seat.HostSeat.{HostSeat}
+use Rattle.pt_tables.specs.Rows.{IsRow}
 use Rattle.pt_tables.specs.Tables.{Agree}
+use Rattle.pt_tables.specs.declared.row.Row.{Row}
 use Rattle.pt_iface.specs.declared.answer.Answer.{Answer}
 use Rattle.pt_iface.specs.declared.answer.Answer.TheVariants as answer
 use Rattle.pt_frame.specs.Deed.{Deed, Calls, Changes, Step, IsStepOf, LacksMemory}
@@ -43,7 +45,7 @@ use Rattle.pt_host.specs.declared.reply.HostReply.TheVariants as host
 -- what is known of each world that a run comes through
 pub record Law (w : World) : Type 0 where
   pub agree : Agree w.tables
-  pub well : IsWellFormed w.tree
+  pub well : (row : Row) → IsRow w.tables row → IsWellFormed w.tree
   pub shown : Each (RowOpen w.tree w.past) w.tables.rows
   pub handled : Each (HandleOpen w.tree w.past) w.tables.handles
   pub distinct : AreDistinct w

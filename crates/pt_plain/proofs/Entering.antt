@@ -106,7 +106,7 @@ pub given_object : (j : ℕ) (w on : World) (deed : Deed) (told : ActReply) (fd 
 given_object j w on deed told fd object number ids m sh a =
     let o = each_taken (RowOpen w.tree w.past) a.3.1 m.0.shown in
     let same : o.object ≡ object =
-    m.0.well.apart (fd_of a.0.form) fd o.object object o.shows.what sh.what o.shows.open_on sh.open_on
+    (m.0.well a.0 a.3).apart (fd_of a.0.form) fd o.object object o.shows.what sh.what o.shows.open_on sh.open_on
     o.shows.is_object sh.is_object (o.shows.same_ids ∙ a.1.1 ∙ sym sh.same_ids) in
     ap w.past.numbers (sym a.2) ∙ o.numbered a.1.0 ∙ ap Some same
 
@@ -118,7 +118,7 @@ given_again j w on deed told fd object number ids m s sh a =
     let o = each_taken (RowOpen w.tree w.past) a.3.1 m.0.shown in
     let what = ap (λ (z : ObjIds). z) a.1.1 in
     let same : o.object ≡ object =
-    m.0.well.apart (fd_of a.0.form) fd o.object object o.shows.what sh.what o.shows.open_on sh.open_on
+    (m.0.well a.0 a.3).apart (fd_of a.0.form) fd o.object object o.shows.what sh.what o.shows.open_on sh.open_on
     o.shows.is_object sh.is_object (o.shows.same_ids ∙ a.1.1 ∙ sym sh.same_ids) in
     let q = still_goes j w on deed told s m.1 m.2 in
     record {

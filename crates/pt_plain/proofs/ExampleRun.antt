@@ -24,6 +24,7 @@ use Rattle.pt_law.proofs.Lists.{set_at_same, set_at_other}
 use Rattle.pt_plain.specs.Plain.{Numbered, PlainTree, forgetting, handled_as, numbered_as}
 use Rattle.pt_plain.specs.Run.{PlainJob, ServesAll, plain_start}
 use Rattle.pt_plain.specs.Serves.{emptied, named_by}
+use Rattle.pt_plain.proofs.Running.{asked_by, told_by}
 
 -- an object that is neither of two has no number where these two have one
 no_number : (first one second two : ℕ) (count more : ℕ) (object other held : ℕ) → object ≢ one → object ≢ two →
@@ -148,7 +149,7 @@ module _
             (λ (q : n ≢ 1). set_at_other begun.numbers 1 (numbered_as 0 2) n q)
             (cases_eq n 1)
 
-    served : (after : PlainTree) × ServesAll plan jobs (plain_start host) after
+    served : (after : PlainTree) × ServesAll plan (asked_by jobs) (told_by jobs) (plain_start host) after
     unfolding set_at
     served = (
       emptied forgot,

@@ -1,3 +1,4 @@
+pub mod Uncalled
 pub mod Coming
 pub mod Showing
 pub mod Stilling

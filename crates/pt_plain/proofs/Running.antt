@@ -1,13 +1,15 @@
 -- Proof. Jobs that ran whole, one after another, are served by the plain file system.
-use Rattle.std.proofs.Common.{◌≡◌, ℕ, zero, suc, List, [], ◌∷◌, ◌++◌, Bool, true, false, Option, Some, None}
+use Rattle.std.proofs.Common.{◌≡◌, ℕ, zero, suc, List, [], ◌∷◌, ◌++◌, Bool, true, false, Option, Some, None, inl, inr}
 use Rattle.std.proofs.Common.{refl, sym, ap, subst, ◌∙◌, arith, map, append_assoc, append-nil, cond, eqb}
 use Rattle.std.proofs.lemmas.Bool.{eqb-true, eqb-false}
 use Rattle.pt_host.specs.Words.{Each, Takes.{here, there}}
 use Rattle.pt_tables.specs.Rows.{IsRow}
 use Rattle.pt_rows.specs.Rows.{IsAmong, NoneOf}
-use Rattle.pt_tables.specs.Tables.{HasNumber, HasHandle, empty_tables}
+use Rattle.pt_tables.specs.Tables.{Tables, Agree, HasNumber, HasHandle, empty_tables}
 use Rattle.pt_tables.specs.declared.row.Row.{Row}
 use Rattle.pt_tables.specs.declared.row.HandleRow.{HandleRow}
+use Rattle.pt_rows.proofs.Entries.{each_from_among}
+use Rattle.pt_iface.specs.declared.answer.Answer.{Answer}
 use Rattle.pt_frame.specs.Deed.{Step, LacksMemory}
 use Rattle.pt_frame.specs.Grammar.{Belongs}
 use Rattle.pt_frame.specs.declared.finish.Finish.TheVariants as finish
@@ -16,6 +18,7 @@ use Rattle.pt_job.specs.Pattern.{Asked, Requests, Edits, grammar_for}
 use Rattle.pt_law.specs.Discipline.{AreDisciplined}
 use Rattle.pt_law.specs.Laws.{Starts, IsCounted}
 use Rattle.pt_law.specs.Ledger.{inserted}
+use Rattle.pt_law.specs.Story.{no_story}
 use Rattle.pt_law.specs.World.{World, Turn, turn_by, Runs, TablesRun, no_past}
 use Rattle.pt_law.proofs.Cuts.{runs_append, runs_split}
 use Rattle.pt_law.proofs.Givings.{live_count, none_other}
@@ -25,24 +28,26 @@ use Rattle.pt_law.proofs.Laws.{reach, distinct_law, counted, empty_agree}
 use Rattle.pt_law.proofs.Lists.{each_taken}
 use Rattle.pt_law.proofs.Reliance.{stays_gone}
 use Rattle.pt_plain.specs.Plain.{PlainTree, Numbered, Handled}
-use Rattle.pt_plain.specs.Run.{PlainJob, turns_from, plain_start, ServesAll, IsNumber, IsHandled, EndsAs}
+use Rattle.pt_plain.specs.Run.{PlainJob, IsNew, turns_from, plain_start, ServesAll, IsNumber, IsHandled, EndsAs}
 use Rattle.pt_plain.specs.Serves.{ServesAsked}
 use Rattle.pt_plain.specs.Whole.{IsAnswered}
 use Rattle.pt_plain.proofs.Answering.{served}
 use Rattle.pt_plain.proofs.Coming.{Law, Walks}
 use Rattle.pt_plain.proofs.Editing.{served_edit}
+use Rattle.pt_plain.proofs.Uncalled.{AreUncalled, elsewhere, formed, in_no_tree, no_handles, no_rows}
+use Rattle.pt_plain.proofs.Uncalled.{starts_elsewhere}
 use Rattle.pt_plain.proofs.Showing.{found, handled, number_at, numbered, Shows}
 
 -- what is known where a run has come to
-pub law_at : (limit bound : ℕ) (turns more : List Turn) (start now : World) → Starts limit start →
+called_law : (limit bound : ℕ) (turns more : List Turn) (start now : World) → Starts limit start →
     AreDisciplined bound (turns ++ more) → Runs start turns now → Law now
-law_at limit bound turns more start now s a r =
+called_law limit bound turns more start now s a r =
     let v = reach limit bound turns more start now s a r in
     let i = v.1 in
     let t = subst (λ t. TablesRun t turns now.tables) s.tables (tables_run turns start now r) in
     record {
       agree = i.tabled.agree;
-      well = i.well;
+      well = λ row at. i.well;
       shown = i.right.shown;
       handled = i.right.handled;
       distinct = distinct_law limit bound turns more start now s a r;
@@ -51,9 +56,36 @@ law_at limit bound turns more start now s a r =
           (stays_gone n turns (empty_tables limit) now.tables (empty_agree limit) refl t z));
     }
 
+-- where no call was made there is no row
+uncalled_law : (limit bound : ℕ) (turns more : List Turn) (start now : World) → IsNew limit start →
+    AreUncalled turns → AreDisciplined bound (turns ++ more) → Runs start turns now → Law now
+uncalled_law limit bound turns more start now n u a r =
+    let x = elsewhere limit bound turns more start now n.tables u r in
+    let l = called_law limit bound turns more (in_no_tree start.tables no_past no_story) x.0
+    (starts_elsewhere limit bound turns more start now n.tables u r) a x.3 in
+    let none : (row : Row) → IsRow now.tables row → ⊥ = no_rows limit bound turns more start now n.tables u r a in
+    record {
+      agree = subst Agree x.1 l.agree;
+      well = λ row at. absurd (none row at);
+      shown = each_from_among (RowOpen now.tree now.past) now.tables.rows (λ row at. absurd (none row at));
+      handled = each_from_among (HandleOpen now.tree now.past) now.tables.handles
+          (λ row at. absurd (no_handles limit bound turns more start now n.tables u r a row at));
+      distinct = λ number other live also apart. absurd (none live.0 live.1);
+      drawn = λ n l'. ap (live_count n) (sym x.1)
+          ∙ l.drawn n (let e = ap (λ (t : Tables). t.next_number) x.1 in omega (arith, e, l'));
+    }
+
+pub law_at : (limit bound : ℕ) (turns more : List Turn) (start now : World) → IsNew limit start →
+    AreDisciplined bound (turns ++ more) → Runs start turns now → Law now
+law_at limit bound turns more start now n a r = elim (formed turns start now r) [
+  | inl u ↦ uncalled_law limit bound turns more start now n u a r
+  | inr well ↦ called_law limit bound turns more start now
+      (record { tables = n.tables; well_formed = well; past = n.past; story = n.story }) a r
+]
+
 -- the steps of a job, with what is known of each world between them
 walks_at : (limit bound j : ℕ) (front : List Turn) (steps : List Step) (more : List Turn) (start w w' : World) →
-    Starts limit start → AreDisciplined bound (front ++ (map (turn_by j) steps ++ more)) → Runs start front w →
+    IsNew limit start → AreDisciplined bound (front ++ (map (turn_by j) steps ++ more)) → Runs start front w →
     Each (λ (s : Step). LacksMemory s.reply → ⊥) steps → Runs w (map (turn_by j) steps) w' → Walks j w steps w'
 walks_at limit bound j front [] more start w w' s a r m k = (law_at limit bound front more start w s a r, k)
 walks_at limit bound j front (step ∷ steps) more start w w' s a r m k =
@@ -85,11 +117,17 @@ job_served plan j job w w' state i s l k law = go job.asked i.belongs
     })
     go (Edits edit) b = served_edit plan j edit job.steps w job.last w' state s i.given b k
 
+abbrev pub asked_by : List PlainJob → List Asked
+asked_by jobs = map (λ (job : PlainJob). job.asked) jobs
+
+abbrev pub told_by : List PlainJob → List Answer
+told_by jobs = map (λ (job : PlainJob). job.last) jobs
+
 -- one after another
 all_served : (plan : Plan) (limit bound j : ℕ) (front : List Turn) (jobs : List PlainJob) (start w end : World)
-    (state : PlainTree) → Starts limit start → AreDisciplined bound (front ++ turns_from j jobs) → Runs start front w →
+    (state : PlainTree) → IsNew limit start → AreDisciplined bound (front ++ turns_from j jobs) → Runs start front w →
     Each (IsAnswered plan) jobs → Shows w state →
-    Runs w (turns_from j jobs) end → (after : PlainTree) × ServesAll plan jobs state after × Shows end after
+    Runs w (turns_from j jobs) end → (after : PlainTree) × ServesAll plan (asked_by jobs) (told_by jobs) state after × Shows end after
 all_served plan limit bound j front [] start w end state s a r e sh k =
     (state, refl, subst (λ z. Shows z state) (sym k) sh)
 all_served plan limit bound j front (job ∷ jobs) start w end state s a r e sh k =
@@ -105,7 +143,7 @@ all_served plan limit bound j front (job ∷ jobs) start w end state s a r e sh 
     let more = all_served plan limit bound (suc j) (front ++ own) jobs start cut.0 end one.0 s a' r' e.1 one.2 cut.2 in
     (more.0, (one.0, one.1, more.1), more.2)
 
-pub start_shows : (limit : ℕ) (start : World) → Starts limit start → Shows start (plain_start start.tree)
+pub start_shows : (limit : ℕ) (start : World) → IsNew limit start → Shows start (plain_start start.tree)
 start_shows limit start s =
     let same : record start { tables = empty_tables limit; past = no_past } ≡ start =
     λ i. record start { tables = sym s.tables i; past = sym s.past i } in
@@ -201,10 +239,10 @@ ends_as w state l s = record {
 }
 
 -- The jobs' answers and the end are a run of the plain file system over the jobs in order.
-pub plain_run : (plan : Plan) (limit bound : ℕ) (jobs : List PlainJob) (start end : World) → Starts limit start →
+pub plain_run : (plan : Plan) (limit bound : ℕ) (jobs : List PlainJob) (start end : World) → IsNew limit start →
     AreDisciplined bound (turns_from 0 jobs) →
     Each (IsAnswered plan) jobs → Runs start (turns_from 0 jobs) end →
-    (after : PlainTree) × ServesAll plan jobs (plain_start start.tree) after × EndsAs end after
+    (after : PlainTree) × ServesAll plan (asked_by jobs) (told_by jobs) (plain_start start.tree) after × EndsAs end after
 plain_run plan limit bound jobs start end s a e r =
     let k = all_served plan limit bound 0 [] jobs start start end (plain_start start.tree) s a refl e
     (start_shows limit start s) r in

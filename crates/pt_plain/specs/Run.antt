@@ -2,7 +2,7 @@
 use Rattle.std.specs.Prelude.{◌≡◌, ℕ, suc, List, [], ◌∷◌, ◌++◌, map, Option, Some, None}
 use Rattle.pt_host.specs.Tree.{Tree}
 use Rattle.pt_host.specs.declared.seat.HostSeat.{HostSeat}
-use Rattle.pt_tables.specs.Tables.{HasNumber, HasHandle, nothing_agreed}
+use Rattle.pt_tables.specs.Tables.{HasNumber, HasHandle, empty_tables, nothing_agreed}
 use Rattle.pt_tables.specs.Rows.{IsRow, NoRow, IsHandleRow, NoHandle}
 use Rattle.pt_tables.specs.declared.row.Row.{Row}
 use Rattle.pt_tables.specs.declared.row.HandleRow.{HandleRow}
@@ -11,7 +11,8 @@ use Rattle.pt_frame.specs.Deed.{Step}
 use Rattle.pt_req.specs.declared.plan.Plan.{Plan}
 use Rattle.pt_job.specs.Pattern.{Asked}
 use Rattle.pt_law.specs.Laws.{ObjectOf}
-use Rattle.pt_law.specs.World.{World, Turn, turn_by}
+use Rattle.pt_law.specs.Story.{no_story}
+use Rattle.pt_law.specs.World.{World, Turn, no_past, turn_by}
 use Rattle.pt_plain.specs.Plain.{PlainTree, Numbered, Handled}
 use Rattle.pt_plain.specs.Serves.{ServesAsked}
 
@@ -38,11 +39,18 @@ plain_start tree = record {
   agreed = nothing_agreed;
 }
 
--- it serves the jobs one after another
-abbrev pub ServesAll : Plan → List PlainJob → PlainTree → PlainTree → Type 0
-ServesAll plan [] state after = after ≡ state
-ServesAll plan (job ∷ jobs) state after =
-    (mid : PlainTree) × ServesAsked plan job.asked state job.last mid × ServesAll plan jobs mid after
+-- it serves what is asked, one after another, and answers so
+abbrev pub ServesAll : Plan → List Asked → List Answer → PlainTree → PlainTree → Type 0
+ServesAll plan [] [] state after = after ≡ state
+ServesAll plan (asked ∷ more) (told ∷ answers) state after =
+    (mid : PlainTree) × ServesAsked plan asked state told mid × ServesAll plan more answers mid after
+ServesAll plan asked answers state after = ⊥
+
+-- a new session, whatever the host's tree is
+pub record IsNew (limit : ℕ) (world : World) : Type 0 where
+  pub tables : world.tables ≡ empty_tables limit
+  pub past : world.past ≡ no_past
+  pub story : world.story ≡ no_story
 
 -- a number of the tables is that of the plain file system, and likewise a handle
 abbrev pub IsNumber : World → ℕ → Option Numbered → Type 0

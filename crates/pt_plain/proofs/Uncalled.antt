@@ -1,4 +1,4 @@
--- A host's call that is made tells that its tree was well formed from the start on. Where none is made, no descriptor
+-- Proof. A host's call that is made tells that its tree was well formed from the start on. Where none is made, no descriptor
 -- is opened, so no row is inserted, and nothing is said of objects.
 use Rattle.std.proofs.Common.{◌≡◌, ◌⊎◌, inl, inr, ◌∙◌, ℕ, Bool, true, false, cond, eqb, List, [], ◌∷◌, ◌++◌}
 use Rattle.std.proofs.Common.{Option, Some, None, refl, ap, sym, subst, arith}
@@ -25,7 +25,6 @@ use Rattle.pt_law.specs.Reopened.{reopening, ReopensResolved}
 use Rattle.pt_law.proofs.Cuts.{located}
 use Rattle.pt_law.proofs.Laws.{object_law, handles_law, kept_law, leaves_law}
 use Rattle.pt_law.proofs.Lists.{each_front}
-use Rattle.pt_fs.specs.Keeps.{KeepsObjects}
 
 -- a step of the tables, or one that was not made
 abbrev pub IsUncalled : Option Deed → Type 0
@@ -90,7 +89,7 @@ tree_same (turn ∷ turns) start now u r =
     u.0 goes.made
 
 -- a tree with nothing in it
-no_tree : Tree
+pub no_tree : Tree
 no_tree = record { objects = []; names = λ dir name. None; opened = λ fd. None }
 
 no_tree_formed : IsWellFormed no_tree
@@ -123,7 +122,7 @@ made_anywhere (Some (Calls asked)) told tree seat tables later seat' tables' oth
 made_anywhere None NoCopy tree seat tables later seat' tables' other u m = (refl, m.1, m.2)
 made_anywhere None told tree seat tables later seat' tables' other u m = absurd m
 
-abbrev in_no_tree : Tables → Past → Story → World
+abbrev pub in_no_tree : Tables → Past → Story → World
 in_no_tree tables past story = record { tree = no_tree; tables = tables; past = past; story = story }
 
 -- such a run could be made of any tree
@@ -158,39 +157,42 @@ run_anywhere (turn ∷ turns) start now past story u r =
 
 module _ (limit bound : ℕ) (turns more : List Turn) (start now : World) (begins : start.tables ≡ empty_tables limit)
     (u : AreUncalled turns) (r : Runs start turns now) where
-  there : (end : World) × (end.tables ≡ now.tables) × (end.tree ≡ no_tree)
+  pub elsewhere : (end : World) × (end.tables ≡ now.tables) × (end.tree ≡ no_tree)
       × Runs (in_no_tree start.tables no_past no_story) turns end
-  there = run_anywhere turns start now no_past no_story u r
+  elsewhere = run_anywhere turns start now no_past no_story u r
 
-  starts : Starts limit (in_no_tree start.tables no_past no_story)
-  starts = record { tables = begins; well_formed = no_tree_formed; past = refl; story = refl }
+  pub starts_elsewhere : Starts limit (in_no_tree start.tables no_past no_story)
+  starts_elsewhere = record { tables = begins; well_formed = no_tree_formed; past = refl; story = refl }
 
   pub no_rows : AreDisciplined bound (turns ++ more) → (row : Row) → IsRow now.tables row → ⊥
   no_rows d row at =
-      let has = object_law limit bound turns more (in_no_tree start.tables no_past no_story) there.0 row starts d there.3
-      (subst (λ (t : Tables). IsRow t row) (sym there.1) at) in
-      none_open there.0.tree _ has.object there.2 has.open_on
+      let has = object_law limit bound turns more (in_no_tree start.tables no_past no_story) elsewhere.0 row starts_elsewhere d
+      elsewhere.3
+      (subst (λ (t : Tables). IsRow t row) (sym elsewhere.1) at) in
+      none_open elsewhere.0.tree _ has.object elsewhere.2 has.open_on
 
   pub no_handles : AreDisciplined bound (turns ++ more) → (row : HandleRow) → IsHandleRow now.tables row → ⊥
   no_handles d row at =
-      let has = handles_law limit bound turns more (in_no_tree start.tables no_past no_story) there.0 row starts d there.3
-      (subst (λ (t : Tables). IsHandleRow t row) (sym there.1) at) in
-      none_open there.0.tree _ has.0 there.2 has.2
+      let has = handles_law limit bound turns more (in_no_tree start.tables no_past no_story) elsewhere.0 row starts_elsewhere d
+      elsewhere.3
+      (subst (λ (t : Tables). IsHandleRow t row) (sym elsewhere.1) at) in
+      none_open elsewhere.0.tree _ has.0 elsewhere.2 has.2
 
   pub keeps_none : AreDisciplined bound (turns ++ more) → AreKept start bound turns now
   keeps_none d =
-      let kept = kept_law limit bound turns more (in_no_tree start.tables no_past no_story) there.0 starts d there.3 in
+      let kept = kept_law limit bound turns more (in_no_tree start.tables no_past no_story) elsewhere.0 starts_elsewhere d
+      elsewhere.3 in
       record {
         once = λ fd.
             let one = kept.once fd in
-            let none = count_none there.0.tree fd there.2 in
-            let same = ap (kept_fds fd) there.1 in
+            let none = count_none elsewhere.0.tree fd elsewhere.2 in
+            let same = ap (kept_fds fd) elsewhere.1 in
             omega (arith, one, none, same);
         all = λ fd.
             let every = kept.all fd in
-            let none = count_none there.0.tree fd there.2 in
+            let none = count_none elsewhere.0.tree fd elsewhere.2 in
             let nothing = count_none no_tree fd refl in
-            let same = ap (kept_fds fd) there.1 in
+            let same = ap (kept_fds fd) elsewhere.1 in
             let stays = ap (open_count fd) (tree_same turns start now u r) in
             omega (arith, every, none, nothing, same, stays);
         taken = kept.taken;
@@ -280,13 +282,6 @@ no_objects turns start now e u r number object is =
     (subst Blank (sym e) (record { numbers = λ n. refl; latest = λ n. refl; roots = λ n. refl })) in
     let no = sym (b.numbers number) ∙ is in
     cc
-
--- and where there is no row, none has an object
-pub unobjected : (now : World) → ((row : Row) → IsRow now.tables row → ⊥) → KeepsObjects now
-unobjected now none = record {
-  distinct = λ number other live also apart. absurd (none live.0 live.1);
-  open_on = λ row at. absurd (none row at);
-}
 
 -- nothing was opened anew
 pub none_anew : (turns : List Turn) (now : World) → AreUncalled turns → ReopensResolved turns now
