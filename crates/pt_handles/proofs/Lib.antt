@@ -3,3 +3,9 @@ pub mod SlashLemmas
 pub mod Padded
 pub mod Records
 pub mod Listings
+pub mod ColumnLemmas
+pub mod LineLemmas
+pub mod Leads
+pub mod IdLemmas
+pub mod Points
+pub mod Passing

@@ -1,6 +1,7 @@
 -- Listings as a whole: they are read in one way, and bytes that break are none.
-use Rattle.std.proofs.Common.{◌≡◌, ◌≤◌, ◌<◌, ◌+◌, ◌-◌, ◌∙◌, ℕ, zero, suc, List, [], ◌∷◌, ◌++◌, refl, sym, ap, subst}
-use Rattle.std.proofs.Common.{length, take, drop, arith, append_assoc, length-append, Bool, true, false, ◌&&◌, ◌==◌, not}
+use Rattle.std.proofs.Common.{◌≡◌, ◌≤◌, ◌<◌, ◌+◌, ◌∙◌, ℕ, zero, suc, List, [], ◌∷◌, ◌++◌, refl, sym, ap, subst}
+use Rattle.std.proofs.Common.{length, take, drop, arith, append_assoc, length-append, Bool, true, false, ◌&&◌, ◌==◌}
+use Rattle.std.proofs.Common.{not}
 use Rattle.std.specs.Prelude.{nat_lt, ◌^◌}
 use Rattle.std.specs.List.{list_all}
 use Rattle.std.specs.Str.{bytes_eq}

@@ -1,7 +1,7 @@
 -- Names that a NUL ends, and what stands before the first NUL.
-use Rattle.std.proofs.Common.{◌≡◌, ◌≢◌, ◌<◌, ◌+◌, ◌⊎◌, ◌∙◌, ℕ, suc, List, [], ◌∷◌, ◌++◌, true, false, refl, sym, ap}
+use Rattle.std.proofs.Common.{◌≡◌, ◌≢◌, ◌<◌, ◌+◌, ◌∙◌, ℕ, suc, List, [], ◌∷◌, ◌++◌, false, refl, ap}
 use Rattle.std.proofs.Common.{inl, inr, length, take, arith, get_or}
-use Rattle.std.specs.Prelude.{Bool, ◌==◌, position, Some, None, not}
+use Rattle.std.specs.Prelude.{Bool, ◌==◌, not}
 use Rattle.std.specs.List.{position_or_len, prefix_len, before_first, after_first}
 use Rattle.std.proofs.lemmas.Bool.{eqb-true}
 use Rattle.std.proofs.lemmas.Bool.Decides.{eqb_tells}

@@ -1,5 +1,5 @@
 -- Where an element is found first, or that none is.
-use Rattle.std.proofs.Common.{◌≡◌, ◌<◌, ◌≤◌, ◌∙◌, ℕ, List, true, false, refl, sym, ap, length, arith, subst}
+use Rattle.std.proofs.Common.{◌≡◌, ◌<◌, ◌≤◌, ◌∙◌, ℕ, List, true, false, refl, sym, ap, length, arith}
 use Rattle.std.specs.Prelude.{Bool, position, Some, None, cond, nat_lt, Option, unwrap_or}
 use Rattle.std.specs.List.{position_or_len}
 use Rattle.std.proofs.lemmas.Bool.{ltb-false}

@@ -1,12 +1,11 @@
 -- Records at the front of bytes: what is read of one is what was written.
-use Rattle.std.proofs.Common.{◌≡◌, ◌≢◌, ◌≤◌, ◌<◌, ◌+◌, ◌-◌, ◌^◌, ◌∙◌, ℕ, zero, suc, List, [], ◌∷◌, ◌++◌, true, false}
+use Rattle.std.proofs.Common.{◌≡◌, ◌≤◌, ◌<◌, ◌+◌, ◌-◌, ◌^◌, ◌∙◌, ℕ, zero, suc, List, [], ◌∷◌, ◌++◌, true}
 use Rattle.std.proofs.Common.{refl, sym}
-use Rattle.std.proofs.Common.{ap, length, take, drop, subst, arith, rules, get_or, append_assoc, length-append, inl}
+use Rattle.std.proofs.Common.{ap, length, take, drop, subst, arith, get_or, append_assoc, length-append, inl}
 use Rattle.std.proofs.Common.{inr}
-use Rattle.std.proofs.Common.{add-one}
 use Rattle.std.specs.Prelude.{◌==◌}
 use Rattle.std.specs.Int.{to_le_bytes, from_le_bytes, w16, w64}
-use Rattle.std.specs.List.{list_all, slice_range}
+use Rattle.std.specs.List.{list_all}
 use Rattle.std.proofs.Math.ListN.{replicate}
 use Rattle.std.proofs.Math.Seq.{drop-append_seam, take-append_seam, drop-cons}
 use Rattle.std.proofs.lemmas.List.{length-replicate, take_at, take_rest, take-append-drop, drop-drop, length-take-le}

@@ -22,14 +22,18 @@ IsFd _ = ⊥
 abbrev pub OpensFd : Call → Type 0
 OpensFd asked = (told : HostValue) → FitsCall asked told → IsFd told
 
--- the descriptor, or the host's own refusal
+-- the host's own refusal, or that its memory ran out
+abbrev pub IsRefused : HostReply → HandleError → Type 0
+IsRefused told (error.Host errno) = FailsWith told errno
+IsRefused told error.Memory = told ≡ reply.NoMemory
+IsRefused told (error.Named errno path) = ⊥
+IsRefused told error.TooLong = ⊥
+IsRefused told error.OutsidePrefix = ⊥
+
+-- the descriptor, or the refusal
 abbrev pub IsOpened : HostReply → Result Fd HandleError → Type 0
 IsOpened told (Ok fd) = told ≡ reply.Ok (value.Fd fd)
-IsOpened told (Err (error.Host errno)) = FailsWith told errno
-IsOpened told (Err error.Memory) = told ≡ reply.NoMemory
-IsOpened told (Err (error.Named errno path)) = ⊥
-IsOpened told (Err error.TooLong) = ⊥
-IsOpened told (Err error.OutsidePrefix) = ⊥
+IsOpened told (Err why) = IsRefused told why
 
 -- the error with the path beside it, unless its copy found no memory
 abbrev pub IsNamed : Errno → List ℕ → HandleError → Type 0

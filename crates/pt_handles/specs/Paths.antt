@@ -1,7 +1,7 @@
 -- Believed. Paths: what follows a prefix, and what the link of a descriptor in `/proc/self/fd` tells, after proc(5)
 -- and readlink(2).
 use Rattle.std.specs.Prelude.{◌≡◌, ◌≢◌, ℕ, ◌==◌, nat_le, Bool, List, [], ◌∷◌, ◌++◌, length, take, replicate, codes}
-use Rattle.std.specs.Prelude.{◌-◌, nat_eq, Option, Some, None, Result, Ok, Err, position, is_some, unwrap_or}
+use Rattle.std.specs.Prelude.{◌-◌, nat_eq, Option, Some, None, Result, Ok, Err, position}
 use Rattle.std.specs.Prelude.{if◌then◌else◌}
 use Rattle.std.specs.List.{list_any, before_first, ends_with}
 use Rattle.pt_host.specs.declared.ids.Fd.{Fd}

@@ -1,5 +1,5 @@
 -- Believed. The texts of errors, and of a descriptor that has no path to be shown by.
-use Rattle.std.specs.Prelude.{ℕ, List, [], ◌∷◌, ◌++◌, codes, decimal, encode_utf8_all}
+use Rattle.std.specs.Prelude.{ℕ, List, ◌++◌, codes, decimal, encode_utf8_all}
 use Rattle.std.specs.Fmt.{signed_decimal}
 use Rattle.bstr.specs.Utf8.{lossy_chars}
 use Rattle.pt_host.specs.declared.ids.Fd.{Fd}

@@ -10,7 +10,11 @@ use pt_host::{Bytes, Errno, Fd, Host, HostOp, HostReply, HostSeat, HostValue, Op
 use std::alloc::Global;
 
 /// Makes an opening.
-fn opened<H: Host>(host: &mut H, seat: &mut HostSeat, op: &HostOp<'_>) -> Result<Fd, HandleError>
+pub(crate) fn opened<H: Host>(
+    host: &mut H,
+    seat: &mut HostSeat,
+    op: &HostOp<'_>,
+) -> Result<Fd, HandleError>
     requires { OpensFd (call_of op.now) }
     ensures { AsksOnce H.does (call_of op.now) (λ told. IsOpened told result) host.old seat.old host.new seat.new }
 {

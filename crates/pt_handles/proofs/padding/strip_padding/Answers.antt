@@ -1,8 +1,6 @@
-use Rattle.std.proofs.Common.{◌≡◌, ◌∙◌, ◌∷◌, ◌++◌, ℕ, List, sym, ap, subst, take, rules}
+use Rattle.std.proofs.Common.{ℕ, sym, subst, take}
 use Rattle.std.specs.List.{after_first}
-use Rattle.std.proofs.lemmas.List.Sums.{split_at_first, passes_at_first}
 use Rattle.pt_handles.specs.Record.{HasNoNul}
-use Rattle.pt_handles.specs.Dirents.{before_nul}
 use Rattle.pt_handles.proofs.Places.{found, unfound}
 use Rattle.pt_handles.proofs.Padded.{is_nul, before_has_none, no_nul_found, nul_at}
 use Rattle.pt_handles.proofs.padding.strip_padding.Goals as goal

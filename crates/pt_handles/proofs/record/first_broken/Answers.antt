@@ -1,6 +1,6 @@
 use Rattle.std.proofs.lemmas.List.{take_rest, length-take, length-drop}
-use Rattle.std.proofs.Common.{◌≤◌, ◌-◌, drop, length, take, subst, arith, ℕ, List}
-use Rattle.pt_handles.specs.Record.{Dirent, BeginsWith, IsListing}
+use Rattle.std.proofs.Common.{◌-◌, drop, length, subst, arith, ℕ, List}
+use Rattle.pt_handles.specs.Record.{Dirent, BeginsWith}
 use Rattle.pt_handles.specs.Reading.{HasRecord}
 use Rattle.pt_handles.proofs.Listings.{one_more}
 use Rattle.pt_handles.proofs.record.first_broken.Goals as goal

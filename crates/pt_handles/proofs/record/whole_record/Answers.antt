@@ -2,7 +2,7 @@ use Rattle.std.proofs.Common.{◌≡◌, ◌∙◌, ◌+◌, ◌-◌, ap, sym, s
 use Rattle.std.specs.Prelude.{◌==◌}
 use Rattle.std.specs.List.{list_all}
 use Rattle.std.proofs.lemmas.Bool.{true≢false}
-use Rattle.pt_handles.specs.Record.{Dirent, record_size}
+use Rattle.pt_handles.specs.Record.{record_size}
 use Rattle.pt_handles.specs.Reading.{HasRecord}
 use Rattle.pt_handles.proofs.Records.{no_name, same_name, same_size, zeros_inside, assembled}
 use Rattle.pt_handles.proofs.record.whole_record.Goals as goal

@@ -1,4 +1,4 @@
-use Rattle.std.proofs.Common.{◌≡◌, ℕ, List, subst, arith}
+use Rattle.std.proofs.Common.{ℕ, List, subst, arith}
 use Rattle.pt_handles.specs.Record.{Dirent, IsListing, BreaksAt}
 use Rattle.pt_handles.proofs.Listings.{own_listing, broken_is_none}
 use Rattle.pt_handles.proofs.read_dir.ReadDir.from_bytes.Goals as goal

@@ -1,8 +1,6 @@
 use Rattle.std.proofs.Common.{◌≡◌, ◌<◌, ◌≤◌, ◌+◌, ◌∙◌, ℕ, List, [], refl, sym, ap, subst, length, drop, arith, rules}
 use Rattle.std.proofs.Common.{nat_eq, false}
 use Rattle.std.proofs.lemmas.Bool.{eqb-true, eqb-false}
-use Rattle.std.proofs.lemmas.Grind.{common_steps}
-use Rattle.std.proofs.lemmas.List.{length-drop}
 use Rattle.pt_handles.specs.Record.{Dirent, BeginsWith}
 use Rattle.pt_handles.specs.Dirents.{dirents_in, seen_dirent}
 use Rattle.pt_handles.specs.Listed.{dirent_of}
