@@ -248,7 +248,7 @@ made_from_shown does kept reply shown host None tables host' (Some seat') tables
 pub stepped : {H : Type 0} (does : HostRelation H) (faults : H → ℕ) → Promises does faults → (plan : Plan)
     (start : HostSeat) (job : ℕ) (host host' : H) (seat seat' : Option HostSeat) (was now : Machine)
     (tables tables' : Tables) (act : KeptAct) (shown : ActReply) (restoring : Bool) →
-    now.place ≡ was.place →
+    now.id.0 ≡ was.id.0 →
     MadeWanted does (owes plan start was.state) host seat tables act shown host' seat' tables' →
     IsChosen (after shown (owes plan start was.state)) (owes plan start now.state) →
     restoring ≡ restores_now was.state → restoring ≡ restores (owes plan start was.state) →
@@ -269,7 +269,7 @@ stepped does faults promises plan start job host host' seat seat' was now tables
     makes.wanted makes.made makes.shown refl goes in
     record {
       owner = refl;
-      place = place;
+      id = place;
       made = made_from_shown does kept makes.reply shown host seat tables host' seat' tables' makes.made makes.shown;
       advances = advances;
       loses = lost ∙ ap (λ (b : Bool). lost_after (lost_of was.state) b shown) (sym mark ∙ marked);

@@ -26,7 +26,7 @@ module _ {places : List JobPlace} {going : List Machine} (laid : Laid places goi
       other (apart laid place j index own (at ∙ ap (λ (n : ℕ). Some (Goes n)) e))
 
   -- and another machine is of another place
-  not_own : (s : ℕ) (it : Machine) → s ≢ index → slice_get going s ≡ Some it → it.place ≢ place
+  not_own : (s : ℕ) (it : Machine) → s ≢ index → slice_get going s ≡ Some it → it.id.0 ≢ place
   not_own s it other at e =
       other (goes_one s index (same_Some (Goes s) (Goes index)
       (sym (laid.back s it at) ∙ ap (slice_get places) e ∙ own)))
@@ -41,7 +41,7 @@ module _ {places : List JobPlace} {going : List Machine} (laid : Laid places goi
       kept s low = out.others s (λ e. absurd (omega (arith, e, last, low))) low
 
       still_there : (j s : ℕ) → j ≢ place → slice_get places j ≡ Some (Goes s) →
-          (it : Machine) × (slice_get on s ≡ Some it) × (slice_get going s ≡ Some it) × (it.place ≡ j)
+          (it : Machine) × (slice_get on s ≡ Some it) × (slice_get going s ≡ Some it) × (it.id.0 ≡ j)
       still_there j s other at =
           let was = laid.there j s at in
           let not = elsewhere j s other at in
@@ -62,7 +62,7 @@ module _ {places : List JobPlace} {going : List Machine} (laid : Laid places goi
         back = λ s it at.
             let inside = slice_get_within on s it at in
             let was = sym (kept s inside) ∙ at in
-            get-set_other places place it.place (Ends over)
+            get-set_other places place it.id.0 (Ends over)
             (not_own s it (λ e. absurd (omega (arith, inside, e, last))) was) ∙ laid.back s it was;
       }
 
@@ -97,38 +97,38 @@ module _ {places : List JobPlace} {going : List Machine} (laid : Laid places goi
     -- It was not, and the last one is moved to where it was.
     module _ (moved : Machine) (inside : index < length on) (in_place : slice_get on index ≡ Some moved) where
       abbrev pub both_set : List JobPlace
-      both_set = slice_set first_set moved.place (Goes index)
+      both_set = slice_set first_set moved.id.0 (Goes index)
 
       top : slice_get going (length on) ≡ Some moved
       top = sym (out.last inside) ∙ in_place
 
-      top_at : slice_get places moved.place ≡ Some (Goes (length on))
+      top_at : slice_get places moved.id.0 ≡ Some (Goes (length on))
       top_at = laid.back (length on) moved top
 
-      top_other : moved.place ≢ place
+      top_other : moved.id.0 ≢ place
       top_other = not_own (length on) moved (λ e. absurd (omega (arith, e, inside))) top
 
       at_place : slice_get both_set place ≡ Some (Ends over)
-      at_place = get-set_other first_set moved.place place (Goes index) (λ e. top_other (sym e))
+      at_place = get-set_other first_set moved.id.0 place (Goes index) (λ e. top_other (sym e))
           ∙ get-set_same places place (Goes index) (Ends over) own
 
-      pub moved_was : slice_get first_set moved.place ≡ Some (Goes (length on))
-      moved_was = get-set_other places place moved.place (Ends over) top_other ∙ top_at
+      pub moved_was : slice_get first_set moved.id.0 ≡ Some (Goes (length on))
+      moved_was = get-set_other places place moved.id.0 (Ends over) top_other ∙ top_at
 
-      at_moved : slice_get both_set moved.place ≡ Some (Goes index)
-      at_moved = get-set_same first_set moved.place (Goes (length on)) (Goes index) moved_was
+      at_moved : slice_get both_set moved.id.0 ≡ Some (Goes index)
+      at_moved = get-set_same first_set moved.id.0 (Goes (length on)) (Goes index) moved_was
 
-      at_else : (j : ℕ) → j ≢ place → j ≢ moved.place → slice_get both_set j ≡ slice_get places j
-      at_else j other another = get-set_other first_set moved.place j (Goes index) another
+      at_else : (j : ℕ) → j ≢ place → j ≢ moved.id.0 → slice_get both_set j ≡ slice_get places j
+      at_else j other another = get-set_other first_set moved.id.0 j (Goes index) another
           ∙ get-set_other places place j (Ends over) other
 
-      stays_there : (j s : ℕ) → j ≢ place → j ≢ moved.place → slice_get places j ≡ Some (Goes s) →
-          (it : Machine) × (slice_get on s ≡ Some it) × (slice_get going s ≡ Some it) × (it.place ≡ j)
+      stays_there : (j s : ℕ) → j ≢ place → j ≢ moved.id.0 → slice_get places j ≡ Some (Goes s) →
+          (it : Machine) × (slice_get on s ≡ Some it) × (slice_get going s ≡ Some it) × (it.id.0 ≡ j)
       stays_there j s other another at =
           let was = laid.there j s at in
           let not = elsewhere j s other at in
           let low : s ≢ length on = λ e.
-          another (sym was.2 ∙ ap (λ (g : Machine). g.place) (same_Some was.0 moved
+          another (sym was.2 ∙ ap (λ (g : Machine). g.id.0) (same_Some was.0 moved
           (sym was.1 ∙ ap (slice_get going) e ∙ top))) in
           let within = slice_get_within going s was.0 was.1 in
           let few = out.fewer in
@@ -139,7 +139,7 @@ module _ {places : List JobPlace} {going : List Machine} (laid : Laid places goi
         there = λ j s at. elim (cases_eq j place) [
           | inl same ↦
               let no = sym at_place ∙ ap (slice_get both_set) (sym same) ∙ at in absurd (cc)
-          | inr other ↦ elim (cases_eq j moved.place) [
+          | inr other ↦ elim (cases_eq j moved.id.0) [
             | inl same ↦
                 let is : index ≡ s = goes_one index s (same_Some (Goes index) (Goes s)
                 (sym at_moved ∙ ap (slice_get both_set) (sym same) ∙ at)) in
@@ -152,13 +152,13 @@ module _ {places : List JobPlace} {going : List Machine} (laid : Laid places goi
         back = λ s it at. elim (cases_eq s index) [
           | inl same ↦
               let is : moved ≡ it = same_Some moved it (sym in_place ∙ ap (slice_get on) (sym same) ∙ at) in
-              ap (slice_get both_set) (ap (λ (g : Machine). g.place) (sym is)) ∙ at_moved
+              ap (slice_get both_set) (ap (λ (g : Machine). g.id.0) (sym is)) ∙ at_moved
               ∙ ap (λ (n : ℕ). Some (Goes n)) (sym same)
           | inr not ↦
               let low = slice_get_within on s it at in
               let was = sym (out.others s not low) ∙ at in
               let named = laid.back s it was in
-              at_else it.place (not_own s it not was) (λ e.
+              at_else it.id.0 (not_own s it not was) (λ e.
               let is = goes_one s (length on) (same_Some (Goes s) (Goes (length on))
               (sym named ∙ ap (slice_get places) e ∙ top_at)) in absurd (omega (arith, is, low))) ∙ named
         ];
@@ -166,9 +166,9 @@ module _ {places : List JobPlace} {going : List Machine} (laid : Laid places goi
 
       pub moved_runs : states_in both_set on ≡ slice_set (states_in places going) place (state_at on (Ends over))
       moved_runs = map_but places both_set (state_at going) (state_at on) place (state_at on (Ends over))
-          (length-set first_set moved.place (Goes index) ∙ length-set places place (Ends over))
+          (length-set first_set moved.id.0 (Goes index) ∙ length-set places place (Ends over))
           (λ p at. ap (state_at on) (same_Some p (Ends over) (sym at ∙ at_place)))
-          (λ j p q other at now. elim (cases_eq j moved.place) [
+          (λ j p q other at now. elim (cases_eq j moved.id.0) [
             | inl same ↦
                 let was : Goes (length on) ≡ p = same_Some (Goes (length on)) p
                 (sym top_at ∙ ap (slice_get places) (sym same) ∙ at) in
@@ -180,7 +180,7 @@ module _ {places : List JobPlace} {going : List Machine} (laid : Laid places goi
                 ap (state_at on) (sym is) ∙ same j p other another at
           ])
         where
-          same : (j : ℕ) (p : JobPlace) → j ≢ place → j ≢ moved.place → slice_get places j ≡ Some p →
+          same : (j : ℕ) (p : JobPlace) → j ≢ place → j ≢ moved.id.0 → slice_get places j ≡ Some p →
               state_at on p ≡ state_at going p
           same j (Waits job) other another at = refl
           same j (Ends done) other another at = refl
@@ -202,14 +202,14 @@ module _ {places : List JobPlace} {going : List Machine} (laid : Laid places goi
           Kept both_set on room
       moved_kept goes fits =
           let first = still-set places place (Goes index) (Ends over) own in
-          let second = still-set first_set moved.place (Goes (length on)) (Goes index) moved_was in
+          let second = still-set first_set moved.id.0 (Goes (length on)) (Goes index) moved_was in
           let few = out.fewer in
           record { laid = moved_laid; all_go = moved_goes goes; fit = omega (arith, first, second, fits, few) }
 
   -- What is left of the machine that was taken out is where its job has ended.
   module _ (taken : Machine) (read : taken ≡ get_or going index taken)
       (ended : (it : Machine) → slice_get going index ≡ Some it → is_job_over it.state ≡ true) where
-    its : (it : Machine) × (slice_get going index ≡ Some it) × (it.place ≡ place)
+    its : (it : Machine) × (slice_get going index ≡ Some it) × (it.id.0 ≡ place)
     its = laid.there place index own
 
     is_its : taken ≡ its.0

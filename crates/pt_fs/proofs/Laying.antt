@@ -44,11 +44,11 @@ module _ {places : List JobPlace} {going : List Machine} (laid : Laid places goi
       let first = laid.there i index one in
       let second = laid.there j index other in
       let same : first.0 ≡ second.0 = same_Some first.0 second.0 (sym first.1 ∙ second.1) in
-      sym second.2 ∙ ap (λ (it : Machine). it.place) (sym same) ∙ first.2
+      sym second.2 ∙ ap (λ (it : Machine). it.id.0) (sym same) ∙ first.2
 
   -- A job that waits is given a machine.
   module _ {place : ℕ} {job : Job} (it : Machine) (waits_there : slice_get places place ≡ Some (Waits job))
-      (own : it.place ≡ place) where
+      (own : it.id.0 ≡ place) where
     pub wakes_laid : Laid (slice_set places place (Goes (length going))) (going ++ it ∷ [])
     wakes_laid = record {
       there = λ j index at. elim (cases_eq j place) [
@@ -67,12 +67,12 @@ module _ {places : List JobPlace} {going : List Machine} (laid : Laid places goi
             let is : it ≡ one = same_Some it one
             (sym (get-past going it) ∙ ap (slice_get (going ++ it ∷ [])) (sym last) ∙ at) in
             ap (slice_get (slice_set places place (Goes (length going))))
-            (ap (λ (g : Machine). g.place) (sym is) ∙ own)
+            (ap (λ (g : Machine). g.id.0) (sym is) ∙ own)
             ∙ get-set_same places place (Waits job) (Goes (length going)) waits_there
             ∙ ap (λ (n : ℕ). Some (Goes n)) (sym last)
         | inr before ↦
             let was = laid.back index one (get-within going it one index at before) in
-            get-set_other places place one.place (Goes (length going))
+            get-set_other places place one.id.0 (Goes (length going))
             (λ e. let no = sym waits_there ∙ ap (slice_get places) (sym e) ∙ was in absurd (cc)) ∙ was
       ];
     }
@@ -100,7 +100,7 @@ module _ {places : List JobPlace} {going : List Machine} (laid : Laid places goi
 
   -- A machine goes on.
   module _ (place index : ℕ) (own : slice_get places place ≡ Some (Goes index)) (it it' : Machine)
-      (at_index : slice_get going index ≡ Some it) (same_place : it'.place ≡ it.place) where
+      (at_index : slice_get going index ≡ Some it) (same_place : it'.id.0 ≡ it.id.0) where
     pub on_laid : Laid places (slice_set going index it')
     on_laid = record {
       there = λ j s at.
@@ -110,7 +110,7 @@ module _ {places : List JobPlace} {going : List Machine} (laid : Laid places goi
                 let is : was.0 ≡ it = same_Some was.0 it (sym was.1 ∙ ap (slice_get going) same ∙ at_index) in (
                   it',
                   ap (slice_get (slice_set going index it')) same ∙ get-set_same going index it it' at_index,
-                  same_place ∙ ap (λ (g : Machine). g.place) (sym is) ∙ was.2,
+                  same_place ∙ ap (λ (g : Machine). g.id.0) (sym is) ∙ was.2,
                 )
             | inr other ↦ (was.0, get-set_other going index s it' other ∙ was.1, was.2)
           ];
@@ -119,7 +119,7 @@ module _ {places : List JobPlace} {going : List Machine} (laid : Laid places goi
             let is : it' ≡ one = same_Some it' one
             (sym (get-set_same going index it it' at_index) ∙ ap (slice_get (slice_set going index it')) (sym same)
             ∙ at) in
-            ap (slice_get places) (ap (λ (g : Machine). g.place) (sym is) ∙ same_place) ∙ laid.back index it at_index
+            ap (slice_get places) (ap (λ (g : Machine). g.id.0) (sym is) ∙ same_place) ∙ laid.back index it at_index
             ∙ ap (λ (n : ℕ). Some (Goes n)) (sym same)
         | inr other ↦ laid.back s one (sym (get-set_other going index s it' other) ∙ at)
       ];
@@ -180,7 +180,7 @@ wakes_none {places} {going} laid j index own =
 -- one that waited
 pub wakes_one : {places : List JobPlace} {going : List Machine} → Laid places going → (j : ℕ) (job : Job)
     (it : Machine) →
-    slice_get places j ≡ Some (Waits job) → it.place ≡ j → StaysAsIs (Awaits (asked_of job)) (On it.state) →
+    slice_get places j ≡ Some (Waits job) → it.id.0 ≡ j → StaysAsIs (Awaits (asked_of job)) (On it.state) →
     Wakes places going j (slice_set places j (Goes (length going))) (going ++ it ∷ []) (length going)
 wakes_one {places} {going} laid j job it waits_there own stays = record {
   state = Awaits (asked_of job);
@@ -256,9 +256,9 @@ seen_there {going1 = going1} {index = index} seen wakes read =
 module _ {places places1 : List JobPlace} {going going1 : List Machine} {j index room : ℕ} (seen went : Machine)
     (wakes : Wakes places going j places1 going1 index) (kept : Kept places1 going1 room)
     (own : slice_get places1 j ≡ Some (Goes index)) (read : seen ≡ get_or going1 index seen)
-    (same : went.place ≡ seen.place) where
-  its_own : went.place ≡ wakes.it.place
-  its_own = same ∙ ap (λ (g : Machine). g.place) (seen_there seen wakes read)
+    (same : went.id.0 ≡ seen.id.0) where
+  its_own : went.id.0 ≡ wakes.it.id.0
+  its_own = same ∙ ap (λ (g : Machine). g.id.0) (seen_there seen wakes read)
 
   -- it lies where it lay, and the others go on
   pub went_laid : Laid places1 (slice_set going1 index went)

@@ -26,6 +26,7 @@ pub mod Seated
 pub mod Whole
 pub mod LostStep
 pub mod Stopping
+pub mod Sharing
 pub mod Finale
 pub mod Concluding
 pub mod OneLoss

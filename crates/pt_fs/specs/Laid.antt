@@ -56,9 +56,9 @@ still (one ∷ places) = waits one + still places
 -- each place that names a machine names its own, and each machine is that which its place names
 pub record Laid (places : List JobPlace) (going : List Machine) : Type 0 where
   pub there : (j index : ℕ) → slice_get places j ≡ Some (Runs index) →
-      (it : Machine) × (slice_get going index ≡ Some it) × (it.place ≡ j)
+      (it : Machine) × (slice_get going index ≡ Some it) × (it.id.0 ≡ j)
   pub back : (index : ℕ) (it : Machine) → slice_get going index ≡ Some it →
-      slice_get places it.place ≡ Some (Runs index)
+      slice_get places it.id.0 ≡ Some (Runs index)
 
 -- no machine but this one has finished
 abbrev pub GoElsewhere : ℕ → List Machine → Type 0
@@ -103,7 +103,7 @@ pub record Wakes
   pub it : Machine
   pub was : slice_get (states_in places going) j ≡ Some state
   pub there : slice_get going' index ≡ Some it
-  pub own : it.place ≡ j
+  pub own : it.id.0 ≡ j
   pub stays : StaysAsIs state (Goes it.state)
   pub runs : states_in places' going' ≡ slice_set (states_in places going) j (Goes it.state)
 

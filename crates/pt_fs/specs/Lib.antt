@@ -16,6 +16,7 @@ pub mod Took
 pub mod GoesOn
 pub mod Recorded
 pub mod Stopped
+pub mod Shared
 pub mod Keeps
 pub mod Ends
 pub mod Determined

@@ -74,7 +74,7 @@ pub record SteppedBy
     (access' : A)
     : Type 0 where
   pub owner : step.job ≡ job
-  pub place : is.place ≡ was.place
+  pub id : is.id.0 ≡ was.id.0
   pub made : MadeFromBy does makes (kept_deed_of step.act) step.reply host seat access host' seat' access'
   pub advances : Advances (owes plan start was.state) (kept_deed_of step.act) step.reply (owes plan start is.state)
   pub loses : lost_of is.state ≡ lost_after (lost_of was.state) (restores (owes plan start was.state)) step.reply

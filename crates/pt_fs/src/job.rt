@@ -1,6 +1,10 @@
 use pt_host::{Edit, HostSeat};
 use pt_iface::{Context, Request};
 
+/// A job's number: its place in the list of jobs.
+#[derive(Clone, Copy)]
+pub struct JobId(pub u32);
+
 /// One job of `drive`.
 #[derive(Drop)]
 pub enum Job {

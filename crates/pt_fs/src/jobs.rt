@@ -16,24 +16,22 @@ ghost use Rattle.pt_fs.specs.Laid.{GoElsewhere, Kept, Laid, Settles, Wakes, stat
 ghost use Rattle.pt_fs.specs.Loses.{CutRun};
 ghost use Rattle.pt_fs.specs.Placed.{Goes, Waits};
 ghost use Rattle.pt_fs.specs.Recorded.{Wrote};
-ghost use Rattle.pt_fs.specs.Stopped.{Stopped};
+ghost use Rattle.pt_fs.specs.Shared.{RunIsFull, RunKeepsPace, RunStopped, Shares};
 ghost use Rattle.pt_fs.specs.Running.{Running, State, is_finished, inserts_left, owes};
 ghost use Rattle.pt_fs.specs.Took.{Took, IsFinishedAt, IsUnfinished};
 ghost use Rattle.pt_fs.specs.Went.{run_seat};
-ghost use Rattle.pt_fs.specs.Work.{KeepsPace, work};
 ghost use Rattle.pt_fs.specs.declared.job.Job.{Job};
 ghost use Rattle.pt_fs.specs.declared.machine.Machine.{Machine};
 
-use crate::job::Job;
+use crate::job::{Job, JobId};
 use crate::machine::{Machine, begun, ended};
 use crate::places::{Places, Stage, seats_of};
 use crate::record::Record;
 use crate::room::{push_within, with_room};
+use crate::shared::Run;
 use crate::step::advance;
 use pt_host::{Errno, Host, HostSeat};
 use pt_iface::Answer;
-use pt_req::Plan;
-use pt_session::Session;
 use std::alloc::{AllocError, Global};
 use std::marker::Model;
 
@@ -59,72 +57,72 @@ impl Model for Jobs {
 }
 
 /// Begins a job that waits: tells the index of its machine, for which there is room.
-fn begin(places: &mut Places, going: &mut Vec<Machine>, place: usize) -> usize
-    requires waits { (job : Job) × (slice_get places.old.at place ≡ Some (Waits job)) }
+fn begin(places: &mut Places, going: &mut Vec<Machine>, id: JobId) -> usize
+    requires waits { (job : Job) × (slice_get places.old.at id.0 ≡ Some (Waits job)) }
     requires kept { Kept places.old.at going.old.items (vec_capacity going.old) }
     ensures kept { Kept places.new.at going.new.items (vec_capacity going.new) }
     ensures same { length places.new.at ≡ length places.old.at }
     ensures starts { places.new.starts ≡ places.old.starts }
-    ensures index { slice_get places.new.at place ≡ Some (Goes result) }
-    ensures wakes { Wakes places.old.at going.old.items place places.new.at going.new.items result }
+    ensures index { slice_get places.new.at id.0 ≡ Some (Goes result) }
+    ensures wakes { Wakes places.old.at going.old.items id.0 places.new.at going.new.items result }
 {
     let index = going.len();
-    push_within(going, begun(place, places.begin(place, index)));
+    push_within(going, begun(id, places.begin(id, index)));
     index
 }
 
 /// Tells the index of the machine of a job that has not finished, which it is given where it waits.
-fn wake(places: &mut Places, going: &mut Vec<Machine>, place: usize) -> usize
-    requires named { place < length places.old.at }
+fn wake(places: &mut Places, going: &mut Vec<Machine>, id: JobId) -> usize
+    requires named { id.0 < length places.old.at }
     requires kept { Kept places.old.at going.old.items (vec_capacity going.old) }
-    requires unfinished { (state : State) → slice_get (states_in places.old.at going.old.items) place ≡ Some state →
+    requires unfinished { (state : State) → slice_get (states_in places.old.at going.old.items) id.0 ≡ Some state →
         is_finished state ≡ false }
     ensures kept { Kept places.new.at going.new.items (vec_capacity going.new) }
     ensures same { length places.new.at ≡ length places.old.at }
     ensures starts { places.new.starts ≡ places.old.starts }
-    ensures index { slice_get places.new.at place ≡ Some (Goes result) }
-    ensures wakes { Wakes places.old.at going.old.items place places.new.at going.new.items result }
+    ensures index { slice_get places.new.at id.0 ≡ Some (Goes result) }
+    ensures wakes { Wakes places.old.at going.old.items id.0 places.new.at going.new.items result }
 {
-    match places.stage(place) {
-        Stage::Waits => begin(places, going, place),
+    match places.stage(id) {
+        Stage::Waits => begin(places, going, id),
         Stage::Goes(index) => index,
         Stage::Ended(_, _) => 0,
     }
 }
 
 /// Puts a job that has finished where it needs no machine, and the last machine where its own was.
-fn put_away(places: &mut Places, going: &mut Vec<Machine>, place: usize, index: usize)
+fn put_away(places: &mut Places, going: &mut Vec<Machine>, id: JobId, index: usize)
     requires laid { Laid places.old.at going.old.items }
     requires ended { (it : Machine) → slice_get going.old.items index ≡ Some it →
         is_job_over it.state ≡ true }
     requires others_go { GoElsewhere index going.old.items }
     requires room { still places.old.at + length going.old.items ≤ vec_capacity going.old }
-    requires index { slice_get places.old.at place ≡ Some (Goes index) }
+    requires index { slice_get places.old.at id.0 ≡ Some (Goes index) }
     ensures kept { Kept places.new.at going.new.items (vec_capacity going.new) }
     ensures same { length places.new.at ≡ length places.old.at }
     ensures starts { places.new.starts ≡ places.old.starts }
-    ensures settles { Settles places.old.at going.old.items place index places.new.at going.new.items }
+    ensures settles { Settles places.old.at going.old.items id.0 index places.new.at going.new.items }
 {
     let it = going.swap_remove(index);
-    places.end(place, ended(it));
+    places.end(id, ended(it));
     if index < going.len() {
-        places.go(going[index].place, index);
+        places.go(going[index].id, index);
     }
 }
 
 /// Puts a job away, if it has finished. That is apart, as each step comes here and few put a job away.
-fn settle(places: &mut Places, going: &mut Vec<Machine>, place: usize, index: usize)
+fn settle(places: &mut Places, going: &mut Vec<Machine>, id: JobId, index: usize)
     requires laid { Laid places.old.at going.old.items }
     requires others_go { GoElsewhere index going.old.items }
     requires room { still places.old.at + length going.old.items ≤ vec_capacity going.old }
-    requires index { slice_get places.old.at place ≡ Some (Goes index) }
+    requires index { slice_get places.old.at id.0 ≡ Some (Goes index) }
     ensures kept { Kept places.new.at going.new.items (vec_capacity going.new) }
     ensures same { length places.new.at ≡ length places.old.at }
     ensures starts { places.new.starts ≡ places.old.starts }
-    ensures settles { Settles places.old.at going.old.items place index places.new.at going.new.items }
+    ensures settles { Settles places.old.at going.old.items id.0 index places.new.at going.new.items }
 {
     if going[index].state.is_finished() {
-        put_away(places, going, place, index);
+        put_away(places, going, id, index);
     }
 }
 
@@ -152,13 +150,13 @@ impl Jobs {
     }
 
     /// Whether the job of this number has finished.
-    pub fn is_finished(&self, place: usize) -> bool
-        requires named { place < length self.now }
-        ensures result { (run : Running) → slice_get self.now place ≡ Some run → is_finished run.state ≡ result }
-        ensures end { (run : Running) → slice_get self.now place ≡ Some run →
+    pub fn is_finished(&self, id: JobId) -> bool
+        requires named { id.0 < length self.now }
+        ensures result { (run : Running) → slice_get self.now id.0 ≡ Some run → is_finished run.state ≡ result }
+        ensures end { (run : Running) → slice_get self.now id.0 ≡ Some run →
             (plan : Plan) (seat : HostSeat) → is_end (owes plan seat run.state) ≡ result }
     {
-        match self.places.stage(place) {
+        match self.places.stage(id) {
             Stage::Waits => false,
             Stage::Goes(index) => self.going[index].state.is_finished(),
             Stage::Ended(_, _) => true,
@@ -166,33 +164,33 @@ impl Jobs {
     }
 
     /// Whether the wanted step of the job of this number is to restore its seat.
-    pub fn restoring(&self, place: usize) -> bool
-        requires named { place < length self.now }
-        ensures restores { (run : Running) → slice_get self.now place ≡ Some run →
+    pub fn restoring(&self, id: JobId) -> bool
+        requires named { id.0 < length self.now }
+        ensures restores { (run : Running) → slice_get self.now id.0 ≡ Some run →
             (plan : Plan) (seat : HostSeat) → result ≡ restores (owes plan seat run.state) }
-        ensures unfinished { (run : Running) → slice_get self.now place ≡ Some run →
+        ensures unfinished { (run : Running) → slice_get self.now id.0 ≡ Some run →
             result ≡ true → is_finished run.state ≡ false }
-        ensures settled { (run : Running) → slice_get self.now place ≡ Some run →
+        ensures settled { (run : Running) → slice_get self.now id.0 ≡ Some run →
             (plan : Plan) (seat : HostSeat) → IsSettled (owes plan seat run.state) }
     {
-        match self.places.stage(place) {
+        match self.places.stage(id) {
             Stage::Goes(index) => self.going[index].state.restoring(),
             Stage::Waits | Stage::Ended(_, _) => false,
         }
     }
 
     /// Cuts the job of this number, which has not finished.
-    pub fn cut(&mut self, place: usize)
-        requires named { place < length self.old }
-        requires unfinished { (run : Running) → slice_get self.old place ≡ Some run →
+    pub fn cut(&mut self, id: JobId)
+        requires named { id.0 < length self.old }
+        requires unfinished { (run : Running) → slice_get self.old id.0 ≡ Some run →
             is_finished run.state ≡ false }
-        ensures cut { (run : Running) → slice_get self.old place ≡ Some run →
-            (run' : Running) × (self.new ≡ slice_set self.old place run') × CutRun run run'
+        ensures cut { (run : Running) → slice_get self.old id.0 ≡ Some run →
+            (run' : Running) × (self.new ≡ slice_set self.old id.0 run') × CutRun run run'
             × (inserts_left run'.state ≤ inserts_left run.state) }
     {
-        let index = wake(&mut self.places, &mut self.going, place);
+        let index = wake(&mut self.places, &mut self.going, id);
         self.going[index].state.cut();
-        settle(&mut self.places, &mut self.going, place, index);
+        settle(&mut self.places, &mut self.going, id, index);
     }
 
     /// Each job's answer, and its seat if it has one.
@@ -212,37 +210,25 @@ impl Jobs {
 
 /// Takes the next step of the job of this number, writes it down, and tells what it lost of the job's seat.
 pub fn take_step<H: Host, R: Record>(
-    alloc: Global,
-    host: &mut H,
-    plan: &Plan,
-    session: &mut Session,
+    run: &mut Run<'_, '_, H, R>,
     running: &mut Jobs,
-    writer: &mut R,
-    place: u32,
+    id: JobId,
 ) -> Result<Option<Errno>, AllocError>
-    requires named { place < length running.old }
-    requires unfinished { IsUnfinished plan.now running.old place }
-    ensures took { IfOk result (λ lost. Wrote R.wrote writer.old writer.new (λ steps.
-        Took H.does plan.now place host.old running.old session.old [] host.new running.new
-        session.new steps lost)) }
-    ensures room { IfOk result (λ lost. KeepsPace (R.room writer.old) (work running.old session.old)
-        (R.room writer.new) (work running.new session.new)) }
-    ensures stopped { OnErr result (Stopped H.does R.wrote R.unwritten host.old (map run_seat running.old)
-        session.old writer.old host.new session.new writer.new) }
-    ensures full { OnErr result (R.room writer.old < work running.old session.old) }
+    requires named { id.0 < length running.old }
+    requires unfinished { IsUnfinished run.old.plan.now running.old id.0 }
+    ensures shares { Shares run.old run.new }
+    ensures took { IfOk result (λ lost. Wrote R.wrote run.old.writer.now run.new.writer.now (λ steps.
+        Took H.does run.old.plan.now id.0 run.old.host.now running.old run.old.session.now [] run.new.host.now
+        running.new run.new.session.now steps lost)) }
+    ensures room { IfOk result (λ lost. RunKeepsPace R.room run.old running.old run.new running.new) }
+    ensures stopped { OnErr result (RunStopped H.does R.wrote R.unwritten run.old running.old run.new) }
+    ensures full { OnErr result (RunIsFull R.room run.old running.old) }
 {
-    let index = wake(&mut running.places, &mut running.going, place as usize);
-    let start = running.places.start(place as usize);
-    let seat = &mut running.seats[place as usize];
+    let index = wake(&mut running.places, &mut running.going, id);
+    let start = running.places.start(id);
+    let seat = &mut running.seats[id.0 as usize];
     let machine = &mut running.going[index];
-    let lost = advance(
-        alloc, host, plan, session, machine, start, seat, writer, place,
-    );
-    settle(
-        &mut running.places,
-        &mut running.going,
-        place as usize,
-        index,
-    );
+    let lost = advance(run, id, machine, start, seat);
+    settle(&mut running.places, &mut running.going, id, index);
     lost
 }

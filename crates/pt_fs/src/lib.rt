@@ -16,6 +16,7 @@ mod recorded;
 mod room;
 mod run;
 mod schedule;
+mod shared;
 mod step;
 mod trace;
 mod turns;

@@ -8,7 +8,7 @@ ghost use Rattle.pt_fs.specs.Jobs.{asked_of, no_seat};
 ghost use Rattle.pt_fs.specs.Laid.{StaysAsIs};
 ghost use Rattle.pt_fs.specs.Running.{Goes, Waits};
 
-use crate::job::Job;
+use crate::job::{Job, JobId};
 use pt_frame::Finish;
 use pt_host::{Caps, Errno, Groups, HostSeat};
 use pt_iface::{Context, Request};
@@ -17,8 +17,7 @@ use pt_job::AnyJob;
 /// A job on its way.
 #[derive(Drop)]
 pub struct Machine {
-    /// The job's number.
-    pub place: usize,
+    pub id: JobId,
     pub state: AnyJob,
 }
 
@@ -49,25 +48,25 @@ pub fn no_seat() -> HostSeat
 }
 
 /// The machine of a request that has made no step.
-fn begun_request(place: usize, who: Context, request: Request) -> Machine
-    ensures place { result.place ≡ place }
+fn begun_request(id: JobId, who: Context, request: Request) -> Machine
+    ensures id { result.id.0 ≡ id.0 }
     ensures stays { StaysAsIs (Waits (Requests who request)) (Goes result.state) }
 {
     let state = AnyJob::begin(who, request);
-    Machine { place, state }
+    Machine { id, state }
 }
 
 /// The machine of a job that has made no step. The root is opened by the daemon itself.
-pub fn begun(place: usize, job: Job) -> Machine
-    ensures place { result.place ≡ place }
+pub fn begun(id: JobId, job: Job) -> Machine
+    ensures id { result.id.0 ≡ id.0 }
     ensures stays { StaysAsIs (Waits (asked_of job)) (Goes result.state) }
 {
     match job {
-        Job::Request(who, _, request) => begun_request(place, who, request),
-        Job::OpenRoot(_) => begun_request(place, Context { uid: 0, gid: 0 }, Request::Root),
+        Job::Request(who, _, request) => begun_request(id, who, request),
+        Job::OpenRoot(_) => begun_request(id, Context { uid: 0, gid: 0 }, Request::Root),
         Job::Edit(edit) => {
             let state = AnyJob::edit(edit);
-            Machine { place, state }
+            Machine { id, state }
         }
     }
 }
@@ -78,10 +77,7 @@ pub fn ended(machine: Machine) -> Over
     ensures left { (plan : Plan) (seat : HostSeat) → owes plan seat machine.state ≡ End result.last }
     ensures lost { result.lost ≡ lost_of machine.state }
 {
-    let Machine {
-        place: _place,
-        state,
-    } = machine;
+    let Machine { id: _id, state } = machine;
     let lost = state.lost();
     let last = state.finish();
     Over { last, lost }

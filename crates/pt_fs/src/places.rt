@@ -10,7 +10,7 @@ ghost use Rattle.pt_fs.specs.Placed.{Ended, Goes, JobPlace, Waits, AllEnded, ans
 ghost use Rattle.pt_fs.specs.declared.job.Job.{Job};
 
 use crate::ends::answered;
-use crate::job::Job;
+use crate::job::{Job, JobId};
 use crate::machine::{Over, no_seat};
 use crate::room::{push_within, with_room};
 use pt_frame::Finish;
@@ -167,49 +167,49 @@ impl Places {
     }
 
     /// How far the job of this number is.
-    pub fn stage(&self, place: usize) -> Stage
-        requires named { place < length self.now.at }
-        ensures { (it : JobPlace) → slice_get self.now.at place ≡ Some it → result ≡ stage_of it }
+    pub fn stage(&self, id: JobId) -> Stage
+        requires named { id.0 < length self.now.at }
+        ensures { (it : JobPlace) → slice_get self.now.at id.0 ≡ Some it → result ≡ stage_of it }
     {
-        self.stages[place]
+        self.stages[id.0 as usize]
     }
 
     /// The seat with which the job of this number begins.
-    pub fn start(&self, place: usize) -> &HostSeat
-        requires named { place < length self.now.at }
-        ensures { slice_get self.now.starts place ≡ Some result.now }
+    pub fn start(&self, id: JobId) -> &HostSeat
+        requires named { id.0 < length self.now.at }
+        ensures { slice_get self.now.starts id.0 ≡ Some result.now }
     {
-        &self.starts[place]
+        &self.starts[id.0 as usize]
     }
 
     /// Hands out the job of this number, which waits, and has it on its way with this machine.
-    pub fn begin(&mut self, place: usize, index: usize) -> Job
-        requires waits { (job : Job) × (slice_get self.old.at place ≡ Some (Waits job)) }
-        ensures job { slice_get self.old.at place ≡ Some (Waits result) }
+    pub fn begin(&mut self, id: JobId, index: usize) -> Job
+        requires waits { (job : Job) × (slice_get self.old.at id.0 ≡ Some (Waits job)) }
+        ensures job { slice_get self.old.at id.0 ≡ Some (Waits result) }
         ensures starts { self.new.starts ≡ self.old.starts }
-        ensures goes { self.new.at ≡ slice_set self.old.at place (Goes index) }
+        ensures goes { self.new.at ≡ slice_set self.old.at id.0 (Goes index) }
     {
-        self.stages[place] = Stage::Goes(index);
-        mem::replace(&mut self.asked[place], Job::OpenRoot(no_seat()))
+        self.stages[id.0 as usize] = Stage::Goes(index);
+        mem::replace(&mut self.asked[id.0 as usize], Job::OpenRoot(no_seat()))
     }
 
     /// Has the job of this number go on with this machine.
-    pub fn go(&mut self, place: usize, index: usize)
-        requires named { place < length self.old.at }
+    pub fn go(&mut self, id: JobId, index: usize)
+        requires named { id.0 < length self.old.at }
         ensures starts { self.new.starts ≡ self.old.starts }
-        ensures goes { self.new.at ≡ slice_set self.old.at place (Goes index) }
+        ensures goes { self.new.at ≡ slice_set self.old.at id.0 (Goes index) }
     {
-        self.stages[place] = Stage::Goes(index);
+        self.stages[id.0 as usize] = Stage::Goes(index);
     }
 
     /// Has the job of this number ended.
-    pub fn end(&mut self, place: usize, over: Over)
-        requires named { place < length self.old.at }
+    pub fn end(&mut self, id: JobId, over: Over)
+        requires named { id.0 < length self.old.at }
         ensures starts { self.new.starts ≡ self.old.starts }
-        ensures ended { self.new.at ≡ slice_set self.old.at place (Ended over) }
+        ensures ended { self.new.at ≡ slice_set self.old.at id.0 (Ended over) }
     {
-        self.stages[place] = Stage::Ended(loss_of(&over.last), over.lost);
-        put(&mut self.answers, place, answered(over.last));
+        self.stages[id.0 as usize] = Stage::Ended(loss_of(&over.last), over.lost);
+        put(&mut self.answers, id.0 as usize, answered(over.last));
     }
 
     /// Each job's answer.

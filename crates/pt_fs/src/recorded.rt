@@ -18,6 +18,7 @@ use crate::jobs::Jobs;
 use crate::lost::wind_up;
 use crate::record::Record;
 use crate::schedule::run_jobs;
+use crate::shared::Run;
 use pt_host::{Errno, Host, HostSeat};
 use pt_iface::Answer;
 use pt_session::Session;
@@ -94,28 +95,19 @@ pub fn drive_into<H: Host, F: SteppedFs, R: Record>(
     };
     // The run has the tables for itself, and the configuration lies still beside them.
     let mut session = fs.replace_session(Session::new(alloc, 0));
-    match run_jobs(
+    let mut run = Run {
         alloc,
+        plan: fs.plan(),
         host,
-        fs.plan(),
-        &mut session,
-        &mut running,
+        session: &mut session,
         writer,
-        schedule,
-    ) {
+    };
+    match run_jobs(&mut run, &mut running, schedule) {
         Ok(None) => Ok(finish_run(with_tables(fs, session), running)),
-        Ok(Some(loss)) => match wind_up(
-            alloc,
-            host,
-            fs.plan(),
-            &mut session,
-            &mut running,
-            writer,
-            loss.job,
-        ) {
+        Ok(Some(loss)) => match wind_up(&mut run, &mut running, loss.id) {
             Ok(()) => {
                 let left = finish_run(with_tables(fs, session), running);
-                Err(DriveIntoError::CredentialsLost(loss.job, loss.errno, left))
+                Err(DriveIntoError::CredentialsLost(loss.id.0, loss.errno, left))
             }
             Err(_) => Err(DriveIntoError::Record(with_tables(fs, session))),
         },

@@ -5,18 +5,19 @@ ghost use Rattle.pt_frame.specs.Grammar.{is_end};
 ghost use Rattle.pt_frame.specs.declared.act.KeptAct.{KeptAct};
 ghost use Rattle.pt_job.specs.Access.{HasSpare};
 ghost use Rattle.pt_job.specs.Machine.Job.{owes, is_finished, lost_of};
+ghost use Rattle.pt_fs.specs.Shared.{Shares};
 ghost use Rattle.pt_fs.specs.Stepped.{CallsFrom, MadeWanted, Stepped};
 ghost use Rattle.pt_fs.specs.Trace.{MadeFromBy};
 ghost use Rattle.pt_fs.specs.declared.trace.TraceStep.{TraceStep};
 
+use crate::job::JobId;
 use crate::machine::{Machine, no_seat};
 use crate::record::{Record, WrittenAct};
+use crate::shared::Run;
 use pt_frame::{Act, ActReply, Want};
 use pt_host::{Errno, Host, HostOp, HostReply, HostSeat};
 use pt_job::SessionAccess;
-use pt_req::Plan;
-use pt_session::Session;
-use std::alloc::{AllocError, Global};
+use std::alloc::AllocError;
 
 /// Makes one call of a job that has this seat, or none.
 fn call_from<H: Host>(host: &mut H, seat: &mut Option<HostSeat>, op: &HostOp<'_>) -> HostReply
@@ -50,39 +51,36 @@ fn make_from<A: SessionAccess, H: Host>(
 /// for it, it is made all the same. An act that could not be copied is not.
 #[inline(always)]
 fn make_wanted<H: Host, R: Record>(
-    alloc: Global,
-    host: &mut H,
-    plan: &Plan,
-    session: &mut Session,
+    run: &mut Run<'_, '_, H, R>,
+    id: JobId,
     machine: &Machine,
     start: &HostSeat,
     seat: &mut Option<HostSeat>,
-    writer: &mut R,
-    job: u32,
     reply: &mut ActReply,
 ) -> Result<(), AllocError>
-    requires going { is_end (owes plan.now start.now machine.now.state) ≡ false }
-    ensures made { (act : KeptAct)
-        × OnOk result (R.wrote writer.old (record { job = job; act = act; reply = reply.new }) writer.new)
-        × MadeWanted H.does (owes plan.now start.now machine.now.state) host.old seat.old session.old act reply.new
-        host.new seat.new session.new }
-    ensures room { OnOk result (R.room writer.old ≤ R.room writer.new + 1) }
-    ensures unwritten { OnErr result (R.unwritten writer.old writer.new) }
-    ensures full { OnErr result (R.room writer.old ≡ 0) }
+    requires going { is_end (owes run.old.plan.now start.now machine.now.state) ≡ false }
+    ensures shares { Shares run.old run.new }
+    ensures made { (act : KeptAct) × OnOk result
+        (R.wrote run.old.writer.now (record { job = id.0; act = act; reply = reply.new }) run.new.writer.now)
+        × MadeWanted H.does (owes run.old.plan.now start.now machine.now.state) run.old.host.now seat.old
+        run.old.session.now act reply.new run.new.host.now seat.new run.new.session.now }
+    ensures room { OnOk result (R.room run.old.writer.now ≤ R.room run.new.writer.now + 1) }
+    ensures unwritten { OnErr result (R.unwritten run.old.writer.now run.new.writer.now) }
+    ensures full { OnErr result (R.room run.old.writer.now ≡ 0) }
 {
-    match machine.state.want(plan, start) {
+    match machine.state.want(run.plan, start) {
         Want::Finished => Ok(()),
-        Want::Step(act) => match writer.write_act(alloc, job, &act) {
+        Want::Step(act) => match run.writer.write_act(run.alloc, id.0, &act) {
             Ok(WrittenAct::Whole) => {
-                *reply = make_from(host, session, seat, &act);
-                writer.write_reply(alloc, reply)
+                *reply = make_from(run.host, run.session, seat, &act);
+                run.writer.write_reply(run.alloc, reply)
             }
             Ok(WrittenAct::NoCopy) => {
                 *reply = ActReply::NoCopy;
-                writer.write_reply(alloc, reply)
+                run.writer.write_reply(run.alloc, reply)
             }
             Err(error) => {
-                *reply = make_from(host, session, seat, &act);
+                *reply = make_from(run.host, run.session, seat, &act);
                 Err(error)
             }
         },
@@ -100,32 +98,27 @@ fn lost_by(restored: bool, machine: &Machine) -> Option<Errno>
 /// Takes the next step of a job that began with this seat and has that one now, writes it down, and tells what it
 /// lost of the seat.
 pub fn advance<H: Host, R: Record>(
-    alloc: Global,
-    host: &mut H,
-    plan: &Plan,
-    session: &mut Session,
+    run: &mut Run<'_, '_, H, R>,
+    id: JobId,
     machine: &mut Machine,
     start: &HostSeat,
     seat: &mut Option<HostSeat>,
-    writer: &mut R,
-    job: u32,
 ) -> Result<Option<Errno>, AllocError>
     requires unfinished { is_finished machine.old.state ≡ false }
-    requires going { is_end (owes plan.now start.now machine.old.state) ≡ false }
-    ensures stepped { (step : TraceStep) × OnOk result (R.wrote writer.old step writer.new)
-        × Stepped H.does plan.now start.now job host.old seat.old machine.old session.old step host.new seat.new
-        machine.new session.new }
+    requires going { is_end (owes run.old.plan.now start.now machine.old.state) ≡ false }
+    ensures shares { Shares run.old run.new }
+    ensures stepped { (step : TraceStep) × OnOk result (R.wrote run.old.writer.now step run.new.writer.now)
+        × Stepped H.does run.old.plan.now start.now id.0 run.old.host.now seat.old machine.old run.old.session.now step
+        run.new.host.now seat.new machine.new run.new.session.now }
     ensures told { IfOk result (λ lost. lost_of machine.old.state ≡ None → lost_of machine.new.state ≡ lost) }
-    ensures room { OnOk result (R.room writer.old ≤ R.room writer.new + 1) }
-    ensures unwritten { OnErr result (R.unwritten writer.old writer.new) }
-    ensures full { OnErr result (R.room writer.old ≡ 0) }
+    ensures room { OnOk result (R.room run.old.writer.now ≤ R.room run.new.writer.now + 1) }
+    ensures unwritten { OnErr result (R.unwritten run.old.writer.now run.new.writer.now) }
+    ensures full { OnErr result (R.room run.old.writer.now ≡ 0) }
 {
     let mut reply = ActReply::NoCopy;
-    let written = make_wanted(
-        alloc, host, plan, session, machine, start, seat, writer, job, &mut reply,
-    );
+    let written = make_wanted(run, id, machine, start, seat, &mut reply);
     let restored = machine.state.restoring();
-    machine.state.take(plan, reply, start);
+    machine.state.take(run.plan, reply, start);
     let lost = lost_by(restored, machine);
     match written {
         Ok(()) => Ok(lost),

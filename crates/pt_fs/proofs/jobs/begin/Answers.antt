@@ -7,7 +7,7 @@ use Rattle.pt_fs.proofs.jobs.begin.Goals as goal
 
 pub push_within-requires : goal.push_within-requires
 push_within-requires c =
-    let some = some_wait c.args.places.now.at c.args.place c.requires.waits.0 c.requires.waits.1 in
+    let some = some_wait c.args.places.now.at c.args.id.0 c.requires.waits.0 c.requires.waits.1 in
     omega (arith, some, c.requires.kept.fit)
 
 pub returns : goal.returns
@@ -15,11 +15,11 @@ returns c =
     let places = c.args.places.now.at in
     let going = c.args.going.now.items in
     let it = c.begun.result in
-    let own = c.begun.ensures.place in
+    let own = c.begun.ensures.id in
     let job = c.begin.result in
     let there = c.begin.ensures.job in
     let end : c.len-index.result ≡ length going = omega (arith, c.len-index.ensures, c.args.going.now.ok.0) in
-    let sums = still-set places c.args.place (Waits job) (Goes (length going)) there in
+    let sums = still-set places c.args.id.0 (Waits job) (Goes (length going)) there in
     let long = length-append going (it ∷ []) in
     let room = c.requires.kept.fit in
     let grown = c.push_within.ensures.capacity in
@@ -30,8 +30,8 @@ returns c =
         all_go = all_go_on going it c.requires.kept.all_go stays.finished;
         fit = omega (arith, sums, long, room, grown);
       };
-      same = length-set places c.args.place (Goes (length going));
+      same = length-set places c.args.id.0 (Goes (length going));
       starts = c.begin.ensures.starts;
-      index = get-set_same places c.args.place (Waits job) (Goes (length going)) there;
-      wakes = wakes_one c.requires.kept.laid c.args.place job it there own stays;
+      index = get-set_same places c.args.id.0 (Waits job) (Goes (length going)) there;
+      wakes = wakes_one c.requires.kept.laid c.args.id.0 job it there own stays;
     }

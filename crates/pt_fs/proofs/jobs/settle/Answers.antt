@@ -13,7 +13,7 @@ put_away-requires-clause-ended c = λ it at.
 
 pub returns-else-is_finished : goal.returns-else-is_finished
 returns-else-is_finished c =
-    let own = c.requires.laid.there c.args.place c.args.index c.requires.index in
+    let own = c.requires.laid.there c.args.id.0 c.args.index c.requires.index in
     let seen : c.index.result.now ≡ own.0 =
     c.index.ensures ∙ get_or_from_slice_get c.args.going.now.items c.args.index own.0 _ own.1 in
     record {
@@ -26,5 +26,5 @@ returns-else-is_finished c =
       };
       same = refl;
       starts = refl;
-      settles = settles_none c.requires.laid c.args.place c.args.index c.requires.index;
+      settles = settles_none c.requires.laid c.args.id.0 c.args.index c.requires.index;
     }

@@ -17,7 +17,7 @@ loop-place-preserved c =
     let cut = c.cut_one.ensures.cut run.0 run.1 in
     let sums = bounds-set running place run.0 cut.0 run.1 in
     record {
-      cut = rw cut.1 (cut_more place c.args.job _ running run.0 cut.0 c.loop-place.invariant.cut run.1 cut.2);
+      cut = rw cut.1 (cut_more place c.args.lost.0 _ running run.0 cut.0 c.loop-place.invariant.cut run.1 cut.2);
       same = ap length cut.1 ∙ length-set running place cut.0 ∙ c.loop-place.invariant.same;
       bounds = rw cut.1 (omega (arith, sums, cut.3, cut.4, c.loop-place.invariant.bounds));
     }

@@ -2,12 +2,12 @@ use Rattle.std.proofs.Common.{◌∙◌, inl, inr, refl, arith}
 use Rattle.pt_fs.proofs.Lists.{set-same}
 use Rattle.pt_fs.proofs.lost.cut_one.Goals as goal
 
-pub returns-then-place-job : goal.returns-then-place-job
-returns-then-place-job c = record {
+pub returns-then-id-lost : goal.returns-then-id-lost
+returns-then-id-lost c = record {
   cut = λ run at. (
     run,
-    set-same c.args.running.now c.args.place run at,
-    inl (refl, inl (omega (arith, c.if-place-job.true))),
+    set-same c.args.running.now c.args.id.0 run at,
+    inl (refl, inl (omega (arith, c.if-id-lost.true))),
     omega arith,
     omega arith,
   );
@@ -17,7 +17,7 @@ pub returns-then-is_finished : goal.returns-then-is_finished
 returns-then-is_finished c = record {
   cut = λ run at. (
     run,
-    set-same c.args.running.now c.args.place run at,
+    set-same c.args.running.now c.args.id.0 run at,
     inl (refl, inr (c.is_finished.ensures.result run at ∙ c.if-is_finished.true)),
     omega arith,
     omega arith,

@@ -11,7 +11,8 @@ returns-clause-goes g c =
     let n = length c.args.running.now in
     let so_far = rw c.in_default.is at c.in_ok-loss.ensures.goes in
     let same : length c.run_schedule.new.running ≡ n = so_far.so.same in
-    kept_on c.finish_all.result _ _ (rw same at c.finish_all.ensures.goes) (λ more.
+    let plan = c.in_ok-loss.ensures.shares.plan in
+    kept_on c.finish_all.result _ _ (rw (same, plan) at c.finish_all.ensures.goes) (λ more.
     wrote_on so_far more (λ xs ys goes then.
     goes_on _ _ (order c.args.schedule.now n) (rest_of n 0) (rest_of 0 n) _ _ _ _ _ _ _ _ _ _ _ _
     goes (goes_behind xs then)))
@@ -21,9 +22,10 @@ returns-clause-lost g c =
     let n = length c.args.running.now in
     let so_far = rw c.in_default.is at c.in_ok-loss.ensures.goes in
     let same : length c.run_schedule.new.running ≡ n = so_far.so.same in
-    loss_on c.finish_all.result _ _ (rw same at c.finish_all.ensures.lost) (λ loss more.
+    let plan = c.in_ok-loss.ensures.shares.plan in
+    loss_on c.finish_all.result _ _ (rw (same, plan) at c.finish_all.ensures.lost) (λ loss more.
     wrote_on so_far more (λ xs ys goes then.
-    lost_on _ _ (order c.args.schedule.now n) (rest_of n 0) _ _ _ _ _ _ _ _ _ _ _ _ loss.job loss.errno
+    lost_on _ _ (order c.args.schedule.now n) (rest_of n 0) _ _ _ _ _ _ _ _ _ _ _ _ loss.id.0 loss.errno
     goes (lost_behind xs then)))
 
 pub returns-clause-stopped : goal.returns-clause-stopped

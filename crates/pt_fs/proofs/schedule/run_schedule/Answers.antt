@@ -4,11 +4,13 @@ use Rattle.pt_fs.specs.Order.{order}
 use Rattle.pt_fs.proofs.Going.{goes_none, goes_on, goes_place, calm_place}
 use Rattle.pt_fs.proofs.Losing.{lost_on, lost_place}
 use Rattle.pt_fs.proofs.Recording.{wrote_none, wrote_on, took_behind, stays_behind, paces_on}
+use Rattle.pt_fs.proofs.Sharing.{shares_none, shares_on}
 use Rattle.pt_fs.proofs.Stopping.{stopped_goes, err_so}
 use Rattle.pt_fs.proofs.schedule.run_schedule.Goals as goal
 
 pub loop-place-init : goal.loop-place-init
 loop-place-init g c = record {
+  shares = shares_none;
   goes = wrote_none (goes_none _ _ _ _ _ _ _);
   calm = c.requires.calm;
   room = omega arith;
@@ -20,7 +22,8 @@ returns-in-Some-clause-lost g c =
     let places = c.args.schedule.now in
     let n = length c.args.running.now in
     let so_far = rw (drop_more places i 0 c.loop-place-test.true) at c.loop-place.invariant.goes in
-    wrote_on so_far (rw c.in-Some.is at c.in_ok-errno.ensures.lost) (λ xs ys goes took.
+    let plan = c.loop-place.invariant.shares.plan in
+    wrote_on so_far (rw plan at (rw c.in-Some.is at c.in_ok-errno.ensures.lost)) (λ xs ys goes took.
     lost_on _ _ (order places n) (order (get_or places i 0 ∷ drop (i + 1) places) n) _ _ _ _ _ _ _ _ _ _ _ _ _ _
     goes
     (lost_place c.loop-place.invariant.calm (took_behind xs took) (drop (i + 1) places) n))
@@ -31,8 +34,10 @@ loop-place-preserved g c =
     let places = c.args.schedule.now in
     let n = length c.args.running.now in
     let so_far = rw (drop_more places i 0 c.loop-place-test.true) at c.loop-place.invariant.goes in
-    let went = rw c.in_default.is at c.in_ok-errno.ensures.goes in
+    let plan = c.loop-place.invariant.shares.plan in
+    let went = rw plan at (rw c.in_default.is at c.in_ok-errno.ensures.goes) in
     record {
+      shares = shares_on c.loop-place.invariant.shares c.in_ok-errno.ensures.shares;
       goes = wrote_on so_far went (λ xs ys goes one.
           goes_on _ _ (order places n) (order (get_or places i 0 ∷ drop (i + 1) places) n)
           (order (drop (i + 1) places) n) _ _ _ _ _ _ _ _ _ _ _ _ goes

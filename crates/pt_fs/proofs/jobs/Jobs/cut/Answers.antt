@@ -12,11 +12,11 @@ use Rattle.pt_fs.proofs.Runs.{parts, run_of, seats_there, set_seen, within_place
 use Rattle.pt_fs.proofs.jobs.Jobs.cut.Goals as goal
 
 pub wake-index-requires-clause-named : goal.wake-index-requires-clause-named
-wake-index-requires-clause-named c = within_places c.self.invariant c.self.view_is c.args.place c.requires.named
+wake-index-requires-clause-named c = within_places c.self.invariant c.self.view_is c.args.id.0 c.requires.named
 
 pub wake-index-requires-clause-unfinished : goal.wake-index-requires-clause-unfinished
 wake-index-requires-clause-unfinished c = λ state at.
-    let seats = seats_there c.self.invariant c.self.view_is c.args.place state at in
+    let seats = seats_there c.self.invariant c.self.view_is c.args.id.0 state at in
     c.requires.unfinished (run_of seats.0 seats.1 state) seats.2
 
 pub index_mut-requires : goal.index_mut-requires
@@ -29,7 +29,7 @@ pub cut-requires : goal.cut-requires
 cut-requires c =
     let wakes = c.wake-index.ensures.wakes in
     let it = seen_there c.index_mut.result.now wakes c.index_mut.ensures.value in
-    let seats = seats_there c.self.invariant c.self.view_is c.args.place wakes.state wakes.was in
+    let seats = seats_there c.self.invariant c.self.view_is c.args.id.0 wakes.state wakes.was in
     ap (λ (g : Machine). is_job_over g.state) it ∙ wakes.stays.finished
     ∙ c.requires.unfinished (run_of seats.0 seats.1 wakes.state) seats.2
 
@@ -46,7 +46,7 @@ returns c = record {
   cut = λ run at.
       let th = went_through c.index_mut.result.now _ c.wake-index.ensures.wakes c.wake-index.ensures.kept
       c.wake-index.ensures.index c.index_mut.ensures.value refl c.settle.ensures.settles in
-      let own = parts c.self.invariant c.self.view_is c.args.place run at in
+      let own = parts c.self.invariant c.self.view_is c.args.id.0 run at in
       let is : th.state ≡ run.state = same_Some th.state run.state (sym th.was ∙ own.state) in
       let cut = c.cut.ensures in
       let bound = th.after.bound in
@@ -56,7 +56,7 @@ returns c = record {
         ap (λ (l : List HostSeat). runs_of l c.self.inside.seats.items
             (states_in c.settle.new.places.at c.settle.new.going.items))
             (c.settle.ensures.starts ∙ c.wake-index.ensures.starts)
-            ∙ set_seen c.self.invariant c.self.view_is c.args.place run th.state' _ at th.runs,
+            ∙ set_seen c.self.invariant c.self.view_is c.args.id.0 run th.state' _ at th.runs,
         record {
           start = refl;
           seat = refl;
