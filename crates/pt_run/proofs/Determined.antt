@@ -51,7 +51,7 @@ use Rattle.pt_script.specs.declared.settings.Settings.{Settings}
 abbrev IsOne : (Option ℕ → Option (ℕ × ℕ) → Type 0) → Type 0
 IsOne Next = (above : Option ℕ) (one other : Option (ℕ × ℕ)) → Next above one → Next above other → one ≡ other
 
-all_one : (Next : Option ℕ → Option (ℕ × ℕ) → Type 0) → IsOne Next → (above : Option ℕ) (xs ys : List (ℕ × ℕ)) →
+pub all_one : (Next : Option ℕ → Option (ℕ × ℕ) → Type 0) → IsOne Next → (above : Option ℕ) (xs ys : List (ℕ × ℕ)) →
     AllAbove Next above xs → AllAbove Next above ys → xs ≡ ys
 all_one Next one above [] [] h k = refl
 all_one Next one above [] (y ∷ ys) h k = let e = one above None (Some y) h k.0 in absurd (cc)
@@ -64,7 +64,7 @@ all_one Next one above (x ∷ xs) (y ∷ ys) h k =
 pair_same : (one other : ℕ × ℕ) → one.0 ≡ other.0 → one.1 ≡ other.1 → Some one ≡ Some other
 pair_same one other a b = λ i. Some (a i, b i)
 
-lives_one : (tables : Tables) → Agree tables → IsOne (IsLiveAfter tables.rows)
+pub lives_one : (tables : Tables) → Agree tables → IsOne (IsLiveAfter tables.rows)
 lives_one tables agree above None None h k = refl
 lives_one tables agree above None (Some found) h k =
     absurd (none_taken (IsLiveAbove number_rows.keyed above) h k.0.1.1 k.0.2)
@@ -85,7 +85,7 @@ lives_one tables agree above (Some one) (Some other) h k =
     ) (k.0.2.0, e)).0 in
     pair_same one other (sym c ∙ sym e ∙ d) (sym h.0.4 ∙ ap (λ (row : Row). row.count) same ∙ k.0.4)
 
-handles_one : (tables : Tables) → Agree tables → IsOne (IsHandleAfter tables.handles)
+pub handles_one : (tables : Tables) → Agree tables → IsOne (IsHandleAfter tables.handles)
 handles_one tables agree above None None h k = refl
 handles_one tables agree above None (Some found) h k =
     absurd (none_taken (IsLiveAbove handle_rows.keyed above) h k.0.1.1 k.0.2)
@@ -202,7 +202,7 @@ ran_in_order settings start jobs schedule trace answers tables host lost run fou
   uncut = uncut;
 }
 
-end_agrees : (settings : Settings) (start : State) (jobs : List Job) (schedule : List ℕ)
+pub end_agrees : (settings : Settings) (start : State) (jobs : List Job) (schedule : List ℕ)
     (trace : List TraceStep) (answers : List Answer) (tables : Tables) (host : State) (lost : Option LostJob) →
     IsRunFrom settings start jobs schedule trace answers tables host lost → Agree tables
 end_agrees settings start jobs schedule trace answers tables host lost run =
@@ -212,7 +212,7 @@ end_agrees settings start jobs schedule trace answers tables host lost run =
     (hosts_tables Does (turns_of trace) run.opened_host run.fs.tables host tables
     (host_runs Does trace run.opened_host _ run.fs.tables host run.run.steps.seats tables run.run.steps.runs)))
 
-runs_one : (settings : Settings) (start : State) (jobs : List Job) (schedule : List ℕ)
+pub runs_one : (settings : Settings) (start : State) (jobs : List Job) (schedule : List ℕ)
     (trace trace' : List TraceStep) (answers answers' : List Answer) (tables tables' : Tables) (host host' : State)
     (lost lost' : Option LostJob) →
     (run : IsRunFrom settings start jobs schedule trace answers tables host lost)

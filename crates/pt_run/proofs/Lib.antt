@@ -4,7 +4,12 @@ pub mod PairLines
 pub mod CommandWords
 pub mod Rooted
 pub mod Opening
+pub mod Started
+pub mod Unplanned
+pub mod Unfailing
 pub mod Reporting
+pub mod Counting
 pub mod Determined
+pub mod CountsDetermined
 pub mod LinesTell
 pub mod Told

@@ -187,7 +187,7 @@ refused_by given fs fault errno refused is made =
     cc
 
 -- over a host with a root the making of the file system is refused only where its first call was planned to fail
-planned_refusal : (settings : Settings) (start : State) (errno : Errno) (root : Node) →
+pub planned_refusal : (settings : Settings) (start : State) (errno : Errno) (root : Node) →
     slice_get start.nodes 0 ≡ Some root → IsRefused settings start errno → failure_of start opens_root ≡ Some errno
 planned_refusal settings start errno root is refused = go (failure_of start opens_root) refl answers.answered
   where

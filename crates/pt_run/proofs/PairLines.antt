@@ -47,3 +47,20 @@ all_of name Next above start now so_far none = (
   subst (λ (pairs : List (ℕ × ℕ)). AllAbove Next None pairs) (append-nil so_far.0) (so_far.2 [] none),
   so_far.1,
 )
+
+-- these pairs stand there, and what is above completes them
+abbrev pub Stand : (Option ℕ → Option (ℕ × ℕ) → Type 0) → Option ℕ → List (ℕ × ℕ) → Type 0
+Stand Next above pairs = (more : List (ℕ × ℕ)) → AllAbove Next above more → AllAbove Next None (pairs ++ more)
+
+pub stand_more : (Next : Option ℕ → Option (ℕ × ℕ) → Type 0) (above : Option ℕ) (pair : ℕ × ℕ)
+    (pairs after : List (ℕ × ℕ)) → Stand Next above pairs → Next above (Some pair) → after ≡ pairs ++ pair ∷ [] →
+    Stand Next (Some pair.0) after
+stand_more Next above pair pairs after stand next is = λ more rest.
+    subst (λ (l : List (ℕ × ℕ)). AllAbove Next None (l ++ more)) (sym is)
+    (subst (λ (l : List (ℕ × ℕ)). AllAbove Next None l) (sym (append_assoc pairs (pair ∷ []) more))
+    (stand (pair ∷ more) (next, rest)))
+
+pub stand_all : (Next : Option ℕ → Option (ℕ × ℕ) → Type 0) (above : Option ℕ) (pairs : List (ℕ × ℕ)) →
+    Stand Next above pairs → Next above None → AllAbove Next None pairs
+stand_all Next above pairs stand none =
+    subst (λ (l : List (ℕ × ℕ)). AllAbove Next None l) (append-nil pairs) (stand [] none)

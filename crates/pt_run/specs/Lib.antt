@@ -1,4 +1,5 @@
 -- Inner. The files of definitions, lowest first.
+pub mod Command
 pub mod Streams
 pub mod Told
 pub mod Output
@@ -8,6 +9,8 @@ pub mod Report
 pub mod Status
 pub mod Configured
 pub mod Run
+pub mod Counts
+pub mod Counted
 pub mod Reported
 pub mod Determined
 pub mod Alike

@@ -1,6 +1,5 @@
 -- Believed. A run of a script, and its report.
-use Rattle.std.specs.Prelude.{◌≡◌, ◌≢◌, ◌≤◌, ◌⊎◌, ℕ, List, [], ◌∷◌, ◌++◌, Option, Some, None, Result, Ok, Err, length}
-use Rattle.std.specs.Prelude.{codes}
+use Rattle.std.specs.Prelude.{◌≡◌, ◌≢◌, ◌≤◌, ◌⊎◌, ℕ, List, ◌++◌, Option, Some, None, Result, Ok, Err, length, codes}
 use Rattle.pt_host.specs.Errno.{einval}
 use Rattle.pt_host.specs.declared.ids.Errno.{Errno}
 use Rattle.pt_host.specs.declared.reply.HostReply.{HostReply}
@@ -167,10 +166,6 @@ IsNoReport bytes (status.BadConfig errno) =
     × (IsMapRefused begun.settings errno ⊎ IsPlannedRefusal begun.settings start errno)
 IsNoReport bytes status.NoMemory = Unit {0}
 IsNoReport bytes other = ⊥
-
--- the one word of the command line is `script`
-abbrev pub IsScriptWord : List (List ℕ) → Type 0
-IsScriptWord words = words ≡ codes "script" ∷ []
 
 -- a script has so many bytes at most
 abbrev pub max_script : ℕ

@@ -17,7 +17,7 @@ exit_of status.NoMemory = 9
 
 abbrev pub message_of : Status → List ℕ
 message_of status.Done = []
-message_of status.Usage = codes "usage: pt_main script"
+message_of status.Usage = codes "usage: pt_main script | gen N SEED"
 message_of status.TooLong = codes "script too long"
 message_of (status.BadScript line) = codes "bad script at line " ++ decimal line
 message_of (status.BadConfig errno) = codes "bad configuration: os error " ++ signed_decimal errno.0

@@ -1,8 +1,7 @@
-ghost use Rattle.std.specs.Prelude.{◌≡◌, ◌≤◌, ◌+◌, ◌<◌, ◌^◌, ◌++◌, List, ℕ, IfOk, IfErr, OnOk, length};
+ghost use Rattle.std.specs.Prelude.{◌≡◌, ◌≤◌, ◌+◌, ◌<◌, ◌^◌, ◌++◌, [], List, ℕ, IfOk, IfErr, OnOk, length};
 ghost use Rattle.pt_tree.specs.Listing.{listing_of};
 ghost use Rattle.pt_fs.specs.Jobs.{StartAll};
-ghost use Rattle.pt_fs.specs.declared.trace.TraceStep.{TraceStep};
-ghost use Rattle.pt_run.specs.Report.{step_lines};
+ghost use Rattle.pt_fs.specs.Recorded.{Wrote};
 ghost use Rattle.pt_run.specs.TableLines.{live_lines, handle_lines, slots_line};
 ghost use Rattle.pt_run.specs.Configured.{configured, if_some};
 ghost use Rattle.pt_run.specs.Run.{
@@ -21,7 +20,7 @@ ghost use Rattle.pt_run.specs.declared.status.Status.TheVariants as ended;
 use crate::report::{LostJob, StepLines, push_answers, push_lost};
 use crate::status::Status;
 use crate::table_lines::{push_handles, push_lives, push_slots};
-use pt_fs::{DriveIntoError, Job, Left, PassthroughFs, SteppedFs, drive_into};
+use pt_fs::{DriveIntoError, Job, Left, PassthroughFs, Record, SteppedFs, drive_into};
 use pt_iface::Refusal;
 use pt_maps::XattrMap;
 use pt_req::Config;
@@ -126,43 +125,34 @@ fn push_rest(
     push_text(out, b"end\n")
 }
 
-/// What a run left, the lines of its steps, and whether it lost a seat.
+/// What a run left, and whether it lost a seat.
 #[derive(Drop)]
-struct Ran {
-    left: Left<PassthroughFs>,
-    lines: StepLines,
-    lost: Option<LostJob>,
+pub(crate) struct Ran {
+    pub left: Left<PassthroughFs>,
+    pub lost: Option<LostJob>,
 }
 
-// Runs the jobs over a host that holds the script's tree.
-fn run_jobs(
+/// Runs the jobs over a host that holds their tree, and has each of their steps written down.
+pub(crate) fn run_jobs<R: Record>(
     alloc: Global,
     settings: Settings,
     host: &mut TreeHost,
     jobs: Vec<Job>,
     schedule: &[u32],
+    writer: &mut R,
 ) -> Result<Ran, Status>
     requires few { length jobs.items < 2 ^ 32 }
     requires seats { StartAll jobs.items }
-    ensures ok { IfOk result (λ ran. (trace : List TraceStep) × (ran.lines.text.items ≡ step_lines trace)
-        × IsRunFrom settings host.old jobs.items schedule.now
-        trace ran.left.answers.items ran.left.fs.tables host.new ran.lost) }
+    ensures ok { IfOk result (λ ran. Wrote R.wrote writer.old writer.new (λ trace. IsRunFrom settings host.old
+        jobs.items schedule.now trace ran.left.answers.items ran.left.fs.tables host.new ran.lost)) }
     ensures err { IfErr result (λ status. IsNotOpened settings host.old status) }
 {
     let fs = open_fs(alloc, settings, host)?;
-    let mut text = Vec::new(alloc);
-    // The lines of a job's steps have about so many bytes. Where there is no room for all, it is had as they come.
-    let _room = text.reserve(jobs.len().saturating_mul(768));
-    let mut lines = StepLines { text };
-    match drive_into(alloc, fs, host, jobs, schedule, &mut lines) {
-        Ok(left) => Ok(Ran {
-            left,
-            lines,
-            lost: None,
-        }),
+    match drive_into(alloc, fs, host, jobs, schedule, writer) {
+        Ok(left) => Ok(Ran { left, lost: None }),
         Err(DriveIntoError::CredentialsLost(job, errno, left)) => {
             let lost = Some(LostJob { job, errno });
-            Ok(Ran { left, lines, lost })
+            Ok(Ran { left, lost })
         }
         Err(DriveIntoError::Memory(_)) | Err(DriveIntoError::Record(_)) => Err(Status::NoMemory),
     }
@@ -185,15 +175,20 @@ pub(crate) struct Report {
     pub ends: Status,
 }
 
-// The report of jobs that were run and left this host.
-fn report_of_run(alloc: Global, ran: Ran, host: &TreeHost) -> Result<Report, Status>
+// The report of jobs that were run, behind the lines of their steps, and left this host.
+fn report_of_run(
+    alloc: Global,
+    lines: StepLines,
+    ran: Ran,
+    host: &TreeHost,
+) -> Result<Report, Status>
     ensures ok { IfOk result (λ report. (lives : List (ℕ × ℕ)) × (handles : List (ℕ × ℕ))
-        × AreLive ran.left.fs.tables lives handles × (report.text.items ≡ report_behind ran.lines.text.items
+        × AreLive ran.left.fs.tables lives handles × (report.text.items ≡ report_behind lines.text.items
         ran.left.answers.items lives handles ran.left.fs.tables host.now ran.lost)) }
     ensures ends { IfOk result (λ report. report.ends ≡ status_for ran.lost) }
     ensures err { IfErr result (λ status. status ≡ ended.NoMemory) }
 {
-    let Ran { left, lines, lost } = ran;
+    let Ran { left, lost } = ran;
     let mut text = lines.text;
     match push_rest(alloc, &mut text, &left, host, lost) {
         Ok(()) => Ok(Report {
@@ -202,6 +197,16 @@ fn report_of_run(alloc: Global, ran: Ran, host: &TreeHost) -> Result<Report, Sta
         }),
         Err(_) => Err(Status::NoMemory),
     }
+}
+
+// No lines yet, with room for those that so many jobs have, about so many bytes each. Where there is no room for all,
+// it is had as they come.
+fn no_lines(alloc: Global, jobs: usize) -> StepLines
+    ensures { result.text.items ≡ [] }
+{
+    let mut text = Vec::new(alloc);
+    let _room = text.reserve(jobs.saturating_mul(768));
+    StepLines { text }
 }
 
 // The report of the script's jobs, run over its host.
@@ -218,8 +223,10 @@ fn report_of_jobs(alloc: Global, script: Script) -> Result<Report, Status>
         jobs,
         schedule,
     } = script;
-    match run_jobs(alloc, settings, &mut host, jobs, schedule.as_slice()) {
-        Ok(ran) => report_of_run(alloc, ran, &host),
+    let places = schedule.as_slice();
+    let mut lines = no_lines(alloc, jobs.len());
+    match run_jobs(alloc, settings, &mut host, jobs, places, &mut lines) {
+        Ok(ran) => report_of_run(alloc, lines, ran, &host),
         Err(status) => Err(status),
     }
 }

@@ -53,7 +53,7 @@ impl Status {
     {
         match self {
             Status::Done => ("", None),
-            Status::Usage => ("usage: pt_main script", None),
+            Status::Usage => ("usage: pt_main script | gen N SEED", None),
             Status::TooLong => ("script too long", None),
             Status::BadScript(line) => ("bad script at line ", Some(i64::from(line))),
             Status::BadConfig(errno) => ("bad configuration: os error ", Some(i64::from(errno.0))),

@@ -9,7 +9,7 @@ use pt_law::{
     forgotten_nothing, forgotten_number, one_number, seats_in_runs, steps_seated, steps_told,
     two_lookups,
 };
-use pt_run::{report_determines_run, script_determines_report};
+use pt_run::{report_determines_run, script_determines_report, seed_determines_counts};
 use pt_script::first_bad_line;
 use pt_show::texts_tell_values;
 
@@ -81,4 +81,5 @@ fn the_laws_of_texts_hold() {
     script_determines_report();
     texts_tell_values();
     report_determines_run();
+    seed_determines_counts();
 }

@@ -9,6 +9,8 @@ mod drives;
 #[cfg(test)]
 mod faces;
 #[cfg(test)]
+mod generated;
+#[cfg(test)]
 mod jobs;
 #[cfg(test)]
 mod laws;

@@ -35,8 +35,18 @@ fn a_source_that_fails_ends_the_run(rt: HostRuntime) -> Result<(), Fail> {
 
 /// A sink that takes twenty bytes at a time, and tells nothing of them: the test looks at the bytes.
 #[derive(Drop)]
-struct Drops {
+pub(crate) struct Drops {
     sink: MemSink,
+}
+
+impl Drops {
+    pub fn new(sink: MemSink) -> Self {
+        Drops { sink }
+    }
+
+    pub fn as_slice(&self) -> &[u8] {
+        self.sink.as_slice()
+    }
 }
 
 impl Sink for Drops {
@@ -64,14 +74,12 @@ fn a_sink_that_fails_leaves_a_front(rt: HostRuntime) -> Result<(), Fail> {
     ] {
         let mut input = MemSource::new(SCRIPT.to_vec(rt.alloc())?, Vec::new(rt.alloc()));
         let failing = vec![in rt.alloc(); push]?;
-        let mut output = Drops {
-            sink: MemSink::new(rt.alloc(), failing),
-        };
+        let mut output = Drops::new(MemSink::new(rt.alloc(), failing));
         assert_eq!(rt;
             run(rt.alloc(), words.as_slice(), &mut input, &mut output),
             status
         );
-        assert_eq!(rt; output.sink.as_slice(), &REPORT[..length]);
+        assert_eq!(rt; output.as_slice(), &REPORT[..length]);
     }
     Ok(())
 }

@@ -1,33 +1,32 @@
-use Rattle.std.proofs.Common.{◌≡◌, ◌≤◌, List, ℕ, ap, arith, length, subst}
-use Rattle.pt_run.specs.Output.{IsWritten}
-use Rattle.pt_run.specs.Run.{IsReportWith}
-use Rattle.pt_run.specs.declared.status.Status.TheVariants.{Done, CredentialsLost}
-use Rattle.pt_run.proofs.Reporting.{read_as}
+use Rattle.std.proofs.Common.{◌≡◌, ℕ, List, map, string_bytes, subst}
+use Rattle.pt_run.specs.Command.{AskFor}
+use Rattle.pt_run.specs.Counted.{IsCountOf}
+use Rattle.pt_run.specs.Output.{IsWritten, IsFrontWritten}
+use Rattle.pt_run.specs.declared.command.Command.{Command}
+use Rattle.pt_run.specs.declared.command.Command.TheVariants as command
+use Rattle.pt_run.specs.declared.status.Status.TheVariants.{Done, WriteFault}
+use Rattle.pt_run.proofs.CommandWords.{as_asked}
 use Rattle.pt_run.proofs.program.run.Goals as goal
 
-pub returns-in-Ok-clause-done : goal.returns-in-Ok-clause-done
-returns-in-Ok-clause-done g c =
-    let old = g.O.Sink.written c.args.output.now in
-    let new = g.O.Sink.written c.write_report.new.output in
-    let most = c.in-Ok.ensures.short in
-    let long = c.as_slice.ensures.len in
-    let same = ap length c.as_slice.ensures.value in
-    let short : length c.in-Ok.bytes.items ≤ 16777216 = omega (arith, most, long, same) in
-    read_as (g.I.Source.left c.args.input.now) c.in-Ok.bytes.items c.write_report.result Done old new
-    c.in-Ok.ensures.whole short
-    (subst (λ (bytes : List ℕ). c.write_report.result ≡ Done → (report : List ℕ) × IsReportWith bytes Done report
-    × IsWritten old report new) c.as_slice.ensures.value c.write_report.ensures.done)
+pub returns-in-None-clause-counted_ends : goal.returns-in-None-clause-counted_ends
+returns-in-None-clause-counted_ends g c = λ jobs seed asked.
+    c.command_of.ensures.none c.in-None.is (command.Generate jobs seed) asked
 
-pub returns-in-Ok-clause-lost_seat : goal.returns-in-Ok-clause-lost_seat
-returns-in-Ok-clause-lost_seat g c =
-    let old = g.O.Sink.written c.args.output.now in
-    let new = g.O.Sink.written c.write_report.new.output in
-    let most = c.in-Ok.ensures.short in
-    let long = c.as_slice.ensures.len in
-    let same = ap length c.as_slice.ensures.value in
-    let short : length c.in-Ok.bytes.items ≤ 16777216 = omega (arith, most, long, same) in
-    read_as (g.I.Source.left c.args.input.now) c.in-Ok.bytes.items c.write_report.result CredentialsLost old new
-    c.in-Ok.ensures.whole short
-    (subst (λ (bytes : List ℕ). c.write_report.result ≡ CredentialsLost → (report : List ℕ)
-    × IsReportWith bytes CredentialsLost report × IsWritten old report new) c.as_slice.ensures.value
-    c.write_report.ensures.lost)
+pub returns-in-Some-Generate-clause-counted : goal.returns-in-Some-Generate-clause-counted
+returns-in-Some-Generate-clause-counted g c =
+    let words = map string_bytes c.args.words.now in
+    let there = c.in-Some-Generate in
+    as_asked words there.jobs there.seed (λ (jobs seed : ℕ). c.write_counts.result ≡ Done → (lines : List ℕ)
+    × IsCountOf jobs seed lines
+    × IsWritten (g.O.Sink.written c.args.output.now) lines (g.O.Sink.written c.write_counts.new.output))
+    (subst (λ (asked : Command). AskFor words asked) there.field-0-is there.ensures.some) c.write_counts.ensures.done
+
+pub returns-in-Some-Generate-clause-count_fault : goal.returns-in-Some-Generate-clause-count_fault
+returns-in-Some-Generate-clause-count_fault g c =
+    let words = map string_bytes c.args.words.now in
+    let there = c.in-Some-Generate in
+    as_asked words there.jobs there.seed (λ (jobs seed : ℕ). c.write_counts.result ≡ WriteFault → (lines : List ℕ)
+    × IsCountOf jobs seed lines
+    × IsFrontWritten (g.O.Sink.written c.args.output.now) lines (g.O.Sink.written c.write_counts.new.output))
+    (subst (λ (asked : Command). AskFor words asked) there.field-0-is there.ensures.some)
+    c.write_counts.ensures.write_fault

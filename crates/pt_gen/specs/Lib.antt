@@ -1,0 +1,3 @@
+-- Inner. The files of definitions, lowest first.
+pub mod Draws
+pub mod Generated
