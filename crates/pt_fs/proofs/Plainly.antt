@@ -30,12 +30,12 @@ use Rattle.pt_fs.proofs.Orders.{same_function}
 use Rattle.pt_fs.proofs.Traces.{length-steps_by}
 
 -- a job, its answer, and its steps among these
-abbrev plain_job : ℕ → List Turn → Job → Answer → PlainJob
+abbrev pub plain_job : ℕ → List Turn → Job → Answer → PlainJob
 plain_job j turns job told =
     record { seat = job_start job; asked = asked_of job; steps = steps_of j turns; last = told }
 
 -- from some job on
-abbrev plain_jobs : ℕ → List Turn → List Job → List Answer → List PlainJob
+abbrev pub plain_jobs : ℕ → List Turn → List Job → List Answer → List PlainJob
 plain_jobs first turns (job ∷ jobs) (told ∷ answers) =
     plain_job first turns job told ∷ plain_jobs (suc first) turns jobs answers
 plain_jobs first turns jobs answers = []
@@ -50,7 +50,7 @@ each_whole_job first turns (job ∷ jobs) (told ∷ answers) e =
     ap (λ (more : List Turn). map (λ (step : Step). record { job = first; step = step }) (steps_of first turns) ++ more)
     (each_whole_job (suc first) turns jobs answers (omega (arith, e)))
 
-asked_same : (first : ℕ) (turns : List Turn) (jobs : List Job) (answers : List Answer) →
+pub asked_same : (first : ℕ) (turns : List Turn) (jobs : List Job) (answers : List Answer) →
     length answers ≡ length jobs → asked_by (plain_jobs first turns jobs answers) ≡ map asked_of jobs
 asked_same first turns [] [] e = refl
 asked_same first turns [] (told ∷ answers) e = absurd (omega (arith, e))
@@ -58,7 +58,7 @@ asked_same first turns (job ∷ jobs) [] e = absurd (omega (arith, e))
 asked_same first turns (job ∷ jobs) (told ∷ answers) e =
     ap (λ (more : List Asked). asked_of job ∷ more) (asked_same (suc first) turns jobs answers (omega (arith, e)))
 
-told_same : (first : ℕ) (turns : List Turn) (jobs : List Job) (answers : List Answer) →
+pub told_same : (first : ℕ) (turns : List Turn) (jobs : List Job) (answers : List Answer) →
     length answers ≡ length jobs → told_by (plain_jobs first turns jobs answers) ≡ answers
 told_same first turns [] [] e = refl
 told_same first turns [] (told ∷ answers) e = absurd (omega (arith, e))
@@ -67,7 +67,7 @@ told_same first turns (job ∷ jobs) (told ∷ answers) e =
     ap (λ (more : List Answer). told ∷ more) (told_same (suc first) turns jobs answers (omega (arith, e)))
 
 -- what holds of each by its number holds of all from some job on
-each_plain : (P : PlainJob → Type 0) (first : ℕ) (turns : List Turn) (jobs : List Job) (answers : List Answer) →
+pub each_plain : (P : PlainJob → Type 0) (first : ℕ) (turns : List Turn) (jobs : List Job) (answers : List Answer) →
     ((j i : ℕ) (job : Job) (told : Answer) → j ≡ first + i → slice_get jobs i ≡ Some job →
     slice_get answers i ≡ Some told → P (plain_job j turns job told)) →
     Each P (plain_jobs first turns jobs answers)
@@ -97,7 +97,7 @@ counts_same trace = same_function (count_of trace) (λ (j : ℕ). length (steps_
     sym (length-steps_by j trace) ∙ ap length (sym (steps_same j trace)))
 
 -- each job's steps, whole and in job order
-in_job_order : (plan : Plan) (jobs : List Job) (trace : List TraceStep) (answers : List Answer) →
+pub in_job_order : (plan : Plan) (jobs : List Job) (trace : List TraceStep) (answers : List Answer) →
     EndsWhole plan jobs [] trace answers →
     turns_of trace ≡ turns_from 0 (plain_jobs 0 (turns_of trace) jobs answers)
 in_job_order plan jobs trace answers ends =
@@ -109,7 +109,7 @@ in_job_order plan jobs trace answers ends =
     ∙ each_whole_job 0 (turns_of trace) jobs answers ends.answers_each.one_each
 
 -- no step of a job lacks memory
-own_found : (j : ℕ) (trace : List TraceStep) → Each (λ step. LacksMemory step.reply → ⊥) trace →
+pub own_found : (j : ℕ) (trace : List TraceStep) → Each (λ step. LacksMemory step.reply → ⊥) trace →
     Each (λ (step : Step). LacksMemory step.reply → ⊥) (steps_by j trace)
 own_found j [] found = tt
 own_found j (step ∷ trace) found =
@@ -117,7 +117,7 @@ own_found j (step ∷ trace) found =
     elim (step.job == j) as (λ b. Each (λ (one : Step). LacksMemory one.reply → ⊥)
     (cond b (step_of step ∷ steps_by j trace) (steps_by j trace))) [ true ↦ (found.0, more) | false ↦ more ]
 
-told_found : (answers : List Answer) (i : ℕ) (told : Answer) → Each (λ (one : Answer). one ≢ answer.NoMemory) answers →
+pub told_found : (answers : List Answer) (i : ℕ) (told : Answer) → Each (λ (one : Answer). one ≢ answer.NoMemory) answers →
     slice_get answers i ≡ Some told → told ≢ answer.NoMemory
 told_found [] i told found at is = absurd (cc)
 told_found (first ∷ answers) zero told found at is = let same = same_Some first told at in

@@ -1,0 +1,281 @@
+-- Proof. A number is opened: what that makes of contents.
+use Rattle.std.specs.Prelude.{◌&&◌}
+use Rattle.std.specs.Int.RustNames.{bit_and}
+use Rattle.std.proofs.Common.{inl, inr, ◌≡◌, ◌≢◌, ◌<◌, ℕ, List, Bool, true, false, Option, Some, None, refl, sym, ap}
+use Rattle.std.proofs.Common.{subst, ◌∙◌, slice_get, ◌==◌, cond, ◌⊎◌, ◌-◌, ◌^◌, not}
+use Rattle.std.proofs.lemmas.Nat.{and_or_apart, and_assoc}
+use Rattle.pt_host.specs.Contents.{ObjectContents}
+use Rattle.pt_host.specs.Tree.{Tree, Object, IsOpenOn}
+use Rattle.pt_host.specs.Flags.{includes, o_directory, o_trunc, o_path}
+use Rattle.pt_host.specs.Errno.{ebadf}
+use Rattle.pt_host.specs.declared.ids.Errno.{Errno}
+use Rattle.pt_host.specs.declared.ids.Fd.{Fd}
+use Rattle.pt_host.specs.declared.seat.HostSeat.{HostSeat}
+use Rattle.pt_host.specs.declared.flags.OpenFlags.{OpenFlags}
+use Rattle.pt_host.specs.declared.flags.Caps.{Caps}
+use Rattle.pt_host.specs.declared.op.KeptHostOp.TheVariants as call
+use Rattle.pt_host.specs.declared.reply.HostReply.TheVariants as host
+use Rattle.pt_host.specs.declared.reply.HostValue.TheVariants as value
+use Rattle.pt_tables.specs.declared.form.Negotiated.{Negotiated}
+use Rattle.pt_tables.specs.declared.form.RowForm.{RowForm}
+use Rattle.pt_tables.specs.declared.form.RowForm.TheVariants.{File}
+use Rattle.pt_tables.specs.declared.reply.Resolved.{Resolved}
+use Rattle.pt_iface.specs.declared.answer.Answer.{Answer}
+use Rattle.pt_iface.specs.declared.answer.Answer.TheVariants as answer
+use Rattle.pt_frame.specs.Deed.{Calls}
+use Rattle.pt_frame.specs.Tree.{RequestTree, Bares, Shuts}
+use Rattle.pt_frame.specs.declared.act.ActReply.TheVariants.{Host}
+use Rattle.pt_req.specs.Capability.{drops_fsetid, without_fsetid, cleared_if}
+use Rattle.pt_req.specs.Entries.{can_open}
+use Rattle.pt_req.specs.Options.{cleaned, inode_flags, o_append, o_cloexec, o_direct, o_noatime, o_nofollow}
+use Rattle.pt_req.specs.Options.{o_accmode, o_rdwr, passed_on, readable, with_bits, without_bits, without_nofollow}
+use Rattle.pt_req.specs.Options.{written_back}
+use Rattle.pt_req.specs.Parts.{handled, open_form, open_inode, open_num, open_row}
+use Rattle.pt_req.specs.declared.begun.BegunSession.{BegunSession}
+use Rattle.pt_req.specs.declared.plan.Plan.{Plan}
+use Rattle.pt_req.specs.declared.plan.Config.{Config}
+use Rattle.pt_law.specs.World.{fd_of}
+use Rattle.pt_law.specs.Under.{seat_lacking}
+use Rattle.pt_law.proofs.Givings.{live_count}
+use Rattle.pt_fit.specs.Asker.{fsetid_if}
+use Rattle.pt_filled.specs.Contents.{is_file_kind, keeps_set_id, with_changed, Becomes as BecomesThere, emptied}
+use Rattle.pt_filled.specs.Contents.{FilledTree, truncates, uncapped_if}
+use Rattle.pt_filled.proofs.Hosting.{Full, Keeps, Thread, contents_at, world_of, Alters, Respects, objects_at}
+use Rattle.pt_filled.proofs.Parts.{At, Calm, IsRefused, comes_at, keeps_on, refused_from, bared_calm, calm_on, unbare}
+use Rattle.pt_filled.proofs.Parts.{in_bracket, IsResolved, walk_reopen, walk_resolve, walk_unless}
+use Rattle.pt_filled.proofs.Threading.{Makes, comes_law}
+use Rattle.pt_filled.proofs.Effects.{reopened_directory, was_reopened}
+use Rattle.pt_filled.proofs.Staying.{left_by}
+use Rattle.pt_filled.proofs.Tails.{Leaving, leaving_handled, leaving_shuts}
+use Rattle.pt_filled.proofs.Writing.{changed_all, keeps_by, walk_uncapped, walk_without}
+
+-- ---- the daemon's own flags touch neither `O_TRUNC` nor `O_PATH`
+
+without_same : (flags bits bit : ℕ) → bit_and (2 ^ 32 - 1 - bits) bit ≡ bit →
+    bit_and (without_bits flags bits) bit ≡ bit_and flags bit
+without_same flags bits bit e = and_assoc bit flags (2 ^ 32 - 1 - bits) ∙ ap (bit_and flags) e
+
+with_same : (flags bits bit : ℕ) → bit_and bits bit ≡ 0 → bit_and (with_bits flags bits) bit ≡ bit_and flags bit
+with_same flags bits bit e = and_or_apart bit flags bits e
+
+-- the bit is none of the daemon's own
+record IsForeign (bit : ℕ) : Type 0 where
+  append : bit_and (2 ^ 32 - 1 - o_append) bit ≡ bit
+  noatime : bit_and (2 ^ 32 - 1 - o_noatime) bit ≡ bit
+  accmode : bit_and (2 ^ 32 - 1 - o_accmode) bit ≡ bit
+  direct : bit_and (2 ^ 32 - 1 - o_direct) bit ≡ bit
+  nofollow : bit_and (2 ^ 32 - 1 - o_nofollow) bit ≡ bit
+  rdwr : bit_and o_rdwr bit ≡ 0
+  cloexec : bit_and o_cloexec bit ≡ 0
+
+cleaned_same : (config : Config) (flags bit : ℕ) → IsForeign bit → bit_and (cleaned config flags) bit ≡ bit_and flags
+    bit
+cleaned_same config flags bit f = go config.clean_noatime
+  where
+    go : (b : Bool) → bit_and (cond b (without_bits (without_bits flags o_append) o_noatime)
+        (without_bits flags o_append)) bit ≡ bit_and flags bit
+    go true = without_same (without_bits flags o_append) o_noatime bit f.noatime
+        ∙ without_same flags o_append bit f.append
+    go false = without_same flags o_append bit f.append
+
+readable_same : (flags bit : ℕ) → IsForeign bit → bit_and (readable flags) bit ≡ bit_and flags bit
+readable_same flags bit f = go (bit_and flags o_accmode == 1)
+  where
+    go : (b : Bool) → bit_and (cond b (with_bits (without_bits flags o_accmode) o_rdwr) flags) bit ≡ bit_and flags bit
+    go true = with_same (without_bits flags o_accmode) o_rdwr bit f.rdwr ∙ without_same flags o_accmode bit f.accmode
+    go false = refl
+
+back_same : (agreed : Negotiated) (flags bit : ℕ) → IsForeign bit →
+    bit_and (written_back agreed flags) bit ≡ bit_and flags bit
+back_same agreed flags bit f = go agreed.writeback
+  where
+    go : (b : Bool) → bit_and (cond b (without_bits (readable flags) o_append) flags) bit ≡ bit_and flags bit
+    go true = without_same (readable flags) o_append bit f.append ∙ readable_same flags bit f
+    go false = refl
+
+passed_same : (config : Config) (flags bit : ℕ) → IsForeign bit → bit_and (passed_on config flags) bit ≡ bit_and flags
+    bit
+passed_same config flags bit f = with_same (cond config.allow_direct_io flags (without_bits flags o_direct)) o_cloexec
+    bit
+    f.cloexec ∙ go config.allow_direct_io
+  where
+    go : (b : Bool) → bit_and (cond b flags (without_bits flags o_direct)) bit ≡ bit_and flags bit
+    go true = refl
+    go false = without_same flags o_direct bit f.direct
+
+abbrev pub opened_flags : Plan → Negotiated → ℕ → OpenFlags
+opened_flags plan agreed flags = without_nofollow (inode_flags plan.config agreed (cleaned plan.config flags))
+
+opened_same : (plan : Plan) (agreed : Negotiated) (flags bit : ℕ) → IsForeign bit →
+    bit_and (opened_flags plan agreed flags).0 bit ≡ bit_and flags bit
+opened_same plan agreed flags bit f =
+    let a = cleaned plan.config flags in let b = written_back agreed a in let c = passed_on plan.config b in
+    without_same c o_nofollow bit f.nofollow ∙ passed_same plan.config b bit f ∙ back_same agreed a bit f
+    ∙ cleaned_same plan.config flags bit f
+
+foreign_trunc : IsForeign o_trunc
+foreign_trunc = record {
+  append = refl;
+  noatime = refl;
+  accmode = refl;
+  direct = refl;
+  nofollow = refl;
+  rdwr = refl;
+  cloexec = refl;
+}
+
+foreign_path : IsForeign o_path
+foreign_path = record {
+  append = refl;
+  noatime = refl;
+  accmode = refl;
+  direct = refl;
+  nofollow = refl;
+  rdwr = refl;
+  cloexec = refl;
+}
+
+foreign_directory : IsForeign o_directory
+foreign_directory = record {
+  append = refl;
+  noatime = refl;
+  accmode = refl;
+  direct = refl;
+  nofollow = refl;
+  rdwr = refl;
+  cloexec = refl;
+}
+
+pub truncates_same : (plan : Plan) (agreed : Negotiated) (flags : ℕ) →
+    truncates (opened_flags plan agreed flags).0 ≡ truncates flags
+truncates_same plan agreed flags =
+    λ i. ((opened_same plan agreed flags o_trunc foreign_trunc i == o_trunc)
+    && not (opened_same plan agreed flags o_path foreign_path i == o_path))
+
+-- ---- the opening of a number
+
+pub respects_emptied : (keeps empties : Bool) → Respects (emptied keeps empties)
+respects_emptied keeps true a b e =
+    ap (λ (c : ObjectContents). record (emptied keeps true c) { atime = b.atime; mtime = b.mtime; ctime = b.ctime }) e
+respects_emptied keeps false a b e = e
+
+-- where no rule gives the attribute of capabilities another name
+uncaps_none : (b : Bool) → uncapped_if b None ≡ (λ (was : ObjectContents). was)
+uncaps_none true = refl
+uncaps_none false = refl
+
+pub uncapped_so : (b : Bool) (name : Option (List ℕ)) (state : FilledTree) (object : ℕ)
+    (change : ObjectContents → ObjectContents) (after : FilledTree) → name ≡ None →
+    BecomesThere state object change after →
+    BecomesThere state object (λ was. uncapped_if b name (change was)) after
+uncapped_so b name state object change after e k =
+    subst (λ (name : Option (List ℕ)). BecomesThere state object (λ was. uncapped_if b name (change was)) after) (sym e)
+    (subst (λ (f : ObjectContents → ObjectContents). BecomesThere state object (λ was. f (change was)) after)
+    (sym (uncaps_none b)) k)
+
+walk_cleared : {G : Type 0} (j : Thread) (emptied : Bool) (name : Option (List ℕ)) (fd : Fd) (next : RequestTree)
+    (w : Full) (last : Answer) (w' : Full) → name ≡ None → At j (cleared_if emptied name fd next) w last w' →
+    (At j next w last w' → G) → G
+walk_cleared j false name fd next w last w' e c goes = goes c
+walk_cleared j true name fd next w last w' e c goes = walk_uncapped j name fd false next w last w' e c goes
+
+-- What an opening that begins in the second world leaves of contents, however it ends: it was refused before, or the
+-- object was emptied, or not.
+abbrev pub OpensSo : Plan → HostSeat → Bool → ℕ → ℕ → Full → Full → Answer → Full → Type 0
+OpensSo plan seat kill flags inode w b last w' =
+    ((errno : Errno) × (last ≡ answer.Refused errno) × Keeps w w')
+    ⊎ ((object : ℕ) × (d : Full) × Calm b d × (d.past.numbers inode ≡ Some object) × (0 < live_count inode d.tables)
+    × Alters w w' (with_changed object (emptied (keeps_set_id plan seat kill)
+    (is_file_kind (slice_get (objects_at w) object) && truncates flags)) (contents_at w))
+    × (includes flags o_directory ≡ true → is_file_kind (slice_get (objects_at w) object) ≡ false))
+
+pub opens_so : (plan : Plan) (session : BegunSession) (inode : ℕ) (kill : Bool) (flags : ℕ) (next : ℕ → RequestTree)
+    (j : Thread) (w b : Full) (last : Answer) (w' : Full) → last ≢ answer.NoMemory → plan.capability ≡ None →
+    ((fd : Fd) (how : OpenFlags) → j.role.lacks (call.Reopen fd how) ≡ fsetid_if (drops_fsetid plan j.seat kill)) →
+    ((handle : ℕ) → Leaving (next handle)) → Keeps w b →
+    At j (open_num plan j.seat session inode kill flags next) b last w' →
+    OpensSo plan j.seat kill flags inode w b last w'
+unfolding open_row
+opens_so plan session inode kill flags next j w b last w' n uncaps lacks leaves kb cb =
+    walk_without j (drops_fsetid plan j.seat kill) opens b last w' n (in_bracket cb) out (λ d bd cd.
+    let qd = bared_calm j b d bd in
+    walk_resolve j inode _ d last w' n cd (λ r. out (refused_from b d last w' qd.keeps r)) (λ row e re ce.
+    let qe = calm_on b d e qd re.calm in
+    walk_unless j (can_open row.mode) ebadf (open_form row.form flags_in bares) e last w' ce
+    (λ r. out (refused_from b e last w' qe.keeps r)) (λ can ce.
+    form_opens row.form d e row refl qd re ce)))
+    (comes_law j (without_fsetid (drops_fsetid plan j.seat kill) opens) b last w' (comes_at (in_bracket cb)))
+  where
+    flags_in : ℕ
+    flags_in = inode_flags plan.config session.agreed (cleaned plan.config flags)
+
+    handles : Fd → RequestTree
+    handles fd = handled session inode fd (λ handle. Shuts false (next handle))
+
+    clears : Fd → RequestTree
+    clears fd = cleared_if (includes flags o_trunc) plan.capability fd (handles fd)
+
+    bares : Fd → RequestTree
+    bares fd = Bares (clears fd)
+
+    opens : RequestTree
+    opens = open_inode plan session inode (cleaned plan.config flags) bares
+
+    out : IsRefused b last w' → OpensSo plan j.seat kill flags inode w b last w'
+    out r = inl (r.errno, r.is, keeps_on w b w' kb r.keeps)
+
+    keeps : Bool
+    keeps = keeps_set_id plan j.seat kill
+
+    rest : (f : Full) (new : Fd) → At j (bares new) f last w' → Keeps f w'
+    rest f new c = unbare c (λ g bg cg. walk_cleared j (includes flags o_trunc) plan.capability new (handles new) g
+        last w'
+        uncaps cg (λ ch. keeps_on f g w' bg.keeps (left_by j (handles new) g last w'
+        (leaving_handled session inode new (λ handle. Shuts false (next handle))
+        (λ handle. leaving_shuts false (leaves handle))) ch)))
+
+    reopened : (d e f : Full) (fd new : Fd) (object : ℕ) → Calm b d → Keeps d e → d.past.numbers inode ≡ Some object →
+        0 < live_count inode d.tables → IsOpenOn (world_of e).tree fd object →
+        Makes j e (Calls (call.Reopen fd (without_nofollow flags_in))) (Host (host.Ok (value.Fd new))) f →
+        At j (bares new) f last w' → OpensSo plan j.seat kill flags inode w b last w'
+    reopened d e f fd new object qd kd is live o m k =
+        let qe = keeps_on w b e kb (keeps_on b d e qd.keeps kd) in
+        let by_seat = subst (λ (l : Option Caps). e.seat ≡ seat_lacking l j.seat)
+        (lacks fd (without_nofollow flags_in)) m.2.as_asked in
+        let emptied_by = was_reopened j e f fd (without_nofollow flags_in) (value.Fd new) object keeps m.2 o
+        (keeps_by plan j.seat e.seat kill by_seat) in
+        let file = ap (λ (l : List Object). is_file_kind (slice_get l object)) qe.objects in
+        let so : Bool → ObjectContents → ObjectContents = λ t. emptied keeps t in
+        let test : (is_file_kind (slice_get (objects_at e) object)
+        && truncates (opened_flags plan session.agreed flags).0)
+        ≡ (is_file_kind (slice_get (objects_at w) object) && truncates flags) =
+        λ i. (file i && truncates_same plan session.agreed flags i) in
+        let there : Alters e f (with_changed object
+        (so (is_file_kind (slice_get (objects_at w) object) && truncates flags)) (contents_at e)) =
+        subst (λ (x : Bool). Alters e f (with_changed object (so x) (contents_at e))) test emptied_by in
+        let all = changed_all j w e f w' fd object (so (is_file_kind (slice_get (objects_at w) object) && truncates
+        flags))
+        qe m.2.made.0.sound o (respects_emptied keeps (is_file_kind (slice_get (objects_at w) object) && truncates
+        flags)) there
+        (rest f new k) in
+        inr (
+          object,
+          d,
+          qd,
+          is,
+          live,
+          all,
+          λ asks. sym file ∙ reopened_directory j e f fd (without_nofollow flags_in) (value.Fd new) object m.2 o
+              (ap (λ (n : ℕ). n == o_directory) (opened_same plan session.agreed flags o_directory foreign_directory)
+              ∙ asks),
+        )
+
+    form_opens : (form : RowForm) (d e : Full) (row : Resolved) → row.form ≡ form → Calm b d →
+        (re : IsResolved j d e inode row) → At j (open_form form flags_in bares) e last w' →
+        OpensSo plan j.seat kill flags inode w b last w'
+    form_opens (File fd) d e row same qd re c =
+        let o = subst (λ (f : RowForm). IsOpenOn (world_of e).tree (fd_of f) re.there.object) same
+        (subst (λ (t : Tree). IsOpenOn t (fd_of row.form) re.there.object) (sym re.there.tree) re.there.open_on) in
+        walk_reopen j fd (without_nofollow flags_in) bares e last w' n c
+        (λ r. out (refused_from b e last w' (keeps_on b d e qd.keeps re.calm.keeps) r)) (λ new f m k.
+        reopened d e f fd new re.there.object qd re.calm.keeps re.there.is_object re.there.live o m k)

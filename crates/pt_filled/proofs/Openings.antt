@@ -1,0 +1,164 @@
+-- Proof. `open` and `opendir`.
+use Rattle.std.specs.Prelude.{◌&&◌}
+use Rattle.std.proofs.Common.{inl, inr, ◌≡◌, ◌≢◌, ◌<◌, ℕ, Bool, true, false, Some, None, refl, sym, ap, subst, ◌∙◌}
+use Rattle.std.proofs.Common.{slice_get, ◌==◌}
+use Rattle.std.proofs.lemmas.Nat.{and_or_self}
+use Rattle.pt_host.specs.Flags.{includes, o_directory, o_trunc}
+use Rattle.pt_host.specs.declared.ids.Errno.{Errno}
+use Rattle.pt_host.specs.declared.ids.Fd.{Fd}
+use Rattle.pt_host.specs.declared.flags.OpenFlags.{OpenFlags}
+use Rattle.pt_host.specs.declared.op.KeptHostOp.TheVariants as call
+use Rattle.pt_tables.specs.declared.form.Negotiated.{Negotiated}
+use Rattle.pt_iface.specs.declared.answer.Answer.{Answer}
+use Rattle.pt_iface.specs.declared.request.Context.{Context}
+use Rattle.pt_iface.specs.declared.request.Request.{Request}
+use Rattle.pt_iface.specs.declared.flags.OpenOptions.{OpenOptions}
+use Rattle.pt_iface.specs.declared.answer.Answer.TheVariants as answer
+use Rattle.pt_iface.specs.declared.request.Request.TheVariants as request
+use Rattle.pt_frame.specs.Tree.{Gives, RequestTree}
+use Rattle.pt_req.specs.Steps.{begin}
+use Rattle.pt_req.specs.Capability.{drops_fsetid}
+use Rattle.pt_req.specs.Options.{open_options, with_bits}
+use Rattle.pt_req.specs.Requests.{open_file, open_dir}
+use Rattle.pt_req.specs.Parts.{open_num}
+use Rattle.pt_req.specs.declared.begun.BegunSession.{BegunSession}
+use Rattle.pt_req.specs.declared.plan.Plan.{Plan}
+use Rattle.pt_law.specs.Under.{Role}
+use Rattle.pt_law.proofs.Givings.{live_count}
+use Rattle.pt_fit.specs.Asker.{fsetid_if, role_in}
+use Rattle.pt_plain.specs.Plain.{PlainTree, OfNumber}
+use Rattle.pt_plain.specs.Serves.{Serves}
+use Rattle.pt_filled.specs.Fills.{Fills, emptied_by, IsOpened, IsOpenedDir}
+use Rattle.pt_filled.specs.Contents.{is_file_kind, keeps_set_id, with_changed, Becomes as BecomesThere, emptied}
+use Rattle.pt_filled.specs.Contents.{truncates}
+use Rattle.pt_filled.proofs.Filling.{Between, filled, IsFilledBy, stay, become, file_there, stands_from}
+use Rattle.pt_filled.proofs.Hosting.{Full, Thread, contents_at, Alters, objects_at}
+use Rattle.pt_filled.proofs.Parts.{At, Calm, walk_begin, calm_on, calm_none}
+use Rattle.pt_filled.proofs.Opened.{OpensSo, opens_so, uncapped_so}
+
+not_refused : (last : Answer) (errno : Errno) (handle : ℕ) (options : OpenOptions) → last ≡ answer.Refused errno →
+    last ≡ answer.Opened handle options → ⊥
+not_refused last errno handle options e f = cc
+
+module _ (plan : Plan) (who : Context) (agreed : Negotiated) (j : Thread) (w : Full) (last : Answer) (w' : Full)
+    (state after : PlainTree) (g : Between w w' state after) (n : last ≢ answer.NoMemory)
+    (uncaps : plan.capability ≡ None) where
+  -- where it began, and what it left
+  abbrev Opening : ℕ → Bool → ℕ → Type 0
+  Opening inode kill flags = (b : Full) × Calm w b × OpensSo plan j.seat kill flags inode w b last w'
+
+  opening : (inode : ℕ) (kill : Bool) (flags : ℕ) →
+      ((fd : Fd) (how : OpenFlags) → j.role.lacks (call.Reopen fd how) ≡ fsetid_if (drops_fsetid plan j.seat kill)) →
+      At j (begin (open_file plan j.seat inode kill flags)) w last w' → Opening inode kill flags
+  opening inode kill flags lacks c =
+      walk_begin j opens w last w' n c (λ r. (w, calm_none w, inl (r.errno, r.is, r.keeps))) (λ session b q z k. (
+        b,
+        q,
+        opens_so plan session inode kill flags ends j w b last w' n uncaps lacks (λ handle. record { by = tt })
+            q.keeps k,
+      ))
+    where
+      ends : ℕ → RequestTree
+      ends handle = Gives (answer.Opened handle (open_options plan.config flags))
+
+      opens : BegunSession → RequestTree
+      opens session = open_num plan j.seat session inode kill flags ends
+
+  opened_in : (inode object : ℕ) (kill : Bool) (flags : ℕ) (b d : Full) → Calm w b → Calm b d →
+      d.past.numbers inode ≡ Some object → 0 < live_count inode d.tables →
+      Alters w w' (with_changed object (emptied (keeps_set_id plan j.seat kill)
+      (is_file_kind (slice_get (objects_at w) object) && truncates flags)) (contents_at w)) →
+      OfNumber state inode (λ object. BecomesThere (filled state w) object
+      (emptied_by plan j.seat kill flags (filled state w) object) (filled after w'))
+  opened_in inode object kill flags b d q h e l a = (
+    object,
+    stands_from w d state inode object g.shows (calm_on w b d q h).quiet e l,
+    become w w' state after _ g.shows (subst (λ (x : Bool). Alters w w' (with_changed object
+        (emptied (keeps_set_id plan j.seat kill) (x && truncates flags)) (contents_at w)))
+        (file_there w state object g.shows) a),
+  )
+
+  pub fills_open : (inode : ℕ) (kill : Bool) (flags : ℕ) →
+      j.role ≡ role_in plan j.seat who agreed (request.Open inode kill flags) →
+      Serves plan (request.Open inode kill flags) state last after →
+      At j (begin (open_file plan j.seat inode kill flags)) w last w' →
+      IsFilledBy plan j.seat who (request.Open inode kill flags) state w last after w'
+  fills_open inode kill flags role v c =
+      by_opening (opening inode kill flags (λ fd how. ap (λ (r : Role). r.lacks (call.Reopen fd how)) role) c)
+    where
+      asked : Request
+      asked = request.Open inode kill flags
+
+      emptied_there : (b d : Full) (object : ℕ) → Calm w b → Calm b d → d.past.numbers inode ≡ Some object →
+          0 < live_count inode d.tables → Alters w w' (with_changed object (emptied (keeps_set_id plan j.seat kill)
+          (is_file_kind (slice_get (objects_at w) object) && truncates flags)) (contents_at w)) →
+          OfNumber state inode (λ object. IsOpened plan j.seat kill flags (filled state w) object (filled after w'))
+      emptied_there b d object q h e l a =
+          let k = opened_in inode object kill flags b d q h e l a in (
+            k.0,
+            k.1,
+            uncapped_so (includes flags o_trunc) plan.capability (filled state w) k.0
+                (emptied_by plan j.seat kill flags (filled state w) k.0) (filled after w') uncaps k.2,
+          )
+
+      answered : (told : Answer) → last ≡ told → Serves plan asked state told after → Opening inode kill flags →
+          Fills plan j.seat who asked (filled state w) told (filled after w')
+      answered (answer.Refused errno) e v (b, q, inl r) = inl (stay w w' state after g.shows r.2)
+      answered (answer.Refused errno) e v (b, q, inr o) =
+          let k = emptied_there b o.1 o.0 q o.2 o.3 o.4 o.5 in inr (k.0, k.1, inr k.2)
+      answered (answer.Opened handle options) e v (b, q, inl r) =
+          absurd (not_refused last r.0 handle options r.1 e)
+      answered (answer.Opened handle options) e v (b, q, inr o) = emptied_there b o.1 o.0 q o.2 o.3 o.4 o.5
+      answered told e v o = absurd v
+
+      by_opening : Opening inode kill flags → IsFilledBy plan j.seat who asked state w last after w'
+      by_opening o = answered last refl v o
+
+  pub fills_open_dir : (inode flags : ℕ) → j.role ≡ role_in plan j.seat who agreed (request.OpenDir inode flags) →
+      Serves plan (request.OpenDir inode flags) state last after →
+      At j (begin (open_dir plan j.seat inode flags)) w last w' →
+      IsFilledBy plan j.seat who (request.OpenDir inode flags) state w last after w'
+  fills_open_dir inode flags role v c =
+      answered last refl v (opening inode false how (λ fd given.
+      ap (λ (r : Role). r.lacks (call.Reopen fd given)) role
+      ∙ no_caps plan.config.killpriv_v2 (includes j.seat.eff_caps.0 16)) c)
+    where
+      asked : Request
+      asked = request.OpenDir inode flags
+
+      how : ℕ
+      how = with_bits flags o_directory
+
+      asks : includes how o_directory ≡ true
+      asks = ap (λ (n : ℕ). n == o_directory) (and_or_self o_directory flags)
+
+      no_caps : (b c : Bool) → None ≡ fsetid_if (b && false && c)
+      no_caps true c = refl
+      no_caps false c = refl
+
+      opened_there : (b d : Full) (object : ℕ) → Calm w b → Calm b d → d.past.numbers inode ≡ Some object →
+          0 < live_count inode d.tables → Alters w w' (with_changed object (emptied (keeps_set_id plan j.seat false)
+          (is_file_kind (slice_get (objects_at w) object) && truncates how)) (contents_at w)) →
+          is_file_kind (slice_get (objects_at w) object) ≡ false →
+          OfNumber state inode (λ object. IsOpenedDir plan flags (filled state w) object (filled after w'))
+      opened_there b d object q h e l a dir = (
+        object,
+        stands_from w d state inode object g.shows (calm_on w b d q h).quiet e l,
+        (
+          sym (file_there w state object g.shows) ∙ dir,
+          uncapped_so (includes flags o_trunc) plan.capability (filled state w) object (λ was. was) (filled after w')
+              uncaps (become w w' state after _ g.shows (subst (λ (x : Bool). Alters w w' (with_changed object
+              (emptied (keeps_set_id plan j.seat false) (x && truncates how)) (contents_at w))) dir a)),
+        ),
+      )
+
+      answered : (told : Answer) → last ≡ told → Serves plan asked state told after → Opening inode false how →
+          Fills plan j.seat who asked (filled state w) told (filled after w')
+      answered (answer.Refused errno) e v (b, q, inl r) = inl (stay w w' state after g.shows r.2)
+      answered (answer.Refused errno) e v (b, q, inr o) =
+          inr (opened_there b o.1 o.0 q o.2 o.3 o.4 o.5 (o.6 asks))
+      answered (answer.Opened handle options) e v (b, q, inl r) =
+          absurd (not_refused last r.0 handle options r.1 e)
+      answered (answer.Opened handle options) e v (b, q, inr o) =
+          opened_there b o.1 o.0 q o.2 o.3 o.4 o.5 (o.6 asks)
+      answered told e v o = absurd v
