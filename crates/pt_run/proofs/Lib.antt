@@ -3,6 +3,8 @@ pub mod Outputs
 pub mod PairLines
 pub mod CommandWords
 pub mod Rooted
+pub mod Ordered
+pub mod Contents
 pub mod Opening
 pub mod Started
 pub mod Unplanned

@@ -8,6 +8,7 @@ pub mod TableLines
 pub mod Report
 pub mod Status
 pub mod Configured
+pub mod Filled
 pub mod Run
 pub mod Counts
 pub mod Counted

@@ -24,6 +24,7 @@ use Rattle.pt_fs.specs.declared.job.Job.{Job}
 use Rattle.pt_fs.specs.declared.trace.TraceStep.{TraceStep}
 use Rattle.pt_script.specs.Jobs.{start_seat}
 use Rattle.pt_script.specs.Script.{Begun, script_of}
+use Rattle.pt_run.specs.Filled.{ServesContents}
 use Rattle.pt_run.specs.Streams.{IsAll}
 use Rattle.pt_run.specs.Report.{step_lines, answer_lines, lost_lines}
 use Rattle.pt_run.specs.declared.report.LostJob.{LostJob}
@@ -87,6 +88,7 @@ pub record IsRunFrom
   pub run : IsRun Does fs.plan jobs opened_host (Some (tree_of opened_host)) fs.tables trace answers host
       (Some (tree_of host)) seats tables
   pub ends : EndsWholeOrLost fs.plan jobs schedule opened_host fs.tables trace answers lost
+  pub filled : ServesContents fs.plan jobs opened_host fs.tables trace answers host tables
 
 -- these are the live numbers and handles of tables, each ascending
 abbrev pub AreLive : Tables → List (ℕ × ℕ) → List (ℕ × ℕ) → Type 0

@@ -1,4 +1,5 @@
 use Rattle.pt_fs.specs.Trace.{seated}
+use Rattle.pt_run.proofs.Contents.{run_contents}
 use Rattle.pt_run.proofs.Opening.{opened_well}
 use Rattle.pt_run.proofs.make_report.run_jobs.Goals as goal
 
@@ -16,6 +17,7 @@ returns-in-Ok-clause-ok g c =
         seats = seated c.in-Ok.left.seats.items;
         run = ran.so.0;
         ends = ran.so.1;
+        filled = run_contents _ _ _ _ _ _ _ _ _ _ c.in_ok-fs.ensures.ok.tables ran.so.0;
       };
     }
 
@@ -34,5 +36,6 @@ returns-in-Err-CredentialsLost-clause-ok g c =
         seats = seated there.left.seats.items;
         run = ran.so.0;
         ends = ran.so.1;
+        filled = run_contents _ _ _ _ _ _ _ _ _ _ c.in_ok-fs.ensures.ok.tables ran.so.0;
       };
     }
