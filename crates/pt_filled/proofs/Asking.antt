@@ -50,6 +50,7 @@ use Rattle.pt_filled.proofs.Staying.{fills_fsync_dir, fills_init, fills_release,
 use Rattle.pt_filled.proofs.Staying.{fills_syncfs, fills_unserved}
 use Rattle.pt_filled.proofs.Threading.{Comes, comes, comes_first, IdlesBy, Makes, Walks}
 use Rattle.pt_filled.proofs.Valued.{fills_getxattr}
+use Rattle.pt_filled.proofs.Valuing.{fills_setxattr}
 use Rattle.pt_filled.proofs.Writing.{fills_fallocate, fills_write}
 
 -- a refusal that left all is one of any request
@@ -147,6 +148,8 @@ module _ (plan : Plan) (who : Context) (agreed : Negotiated) (j : Thread) (w : F
       fills_create plan who agreed j w last w' state after g n a parent name mode kill flags umask ext f.0 f.1 r v c
   fills_in_session (request.SetAttr inode handle valid attr) f r a v c =
       fills_setattr plan who agreed inode handle valid attr j w last w' state after g n f r c
+  fills_in_session (request.SetXattr inode name value flags extra) f r a v c =
+      fills_setxattr plan who j w last w' state after g n f.1 inode name value flags extra f.0 c
   fills_in_session (request.GetXattr inode name size) f r a v c =
       fills_getxattr plan who j w last w' state after g n inode name size c
   fills_in_session (request.Unlink parent name) f r a v c =

@@ -1,6 +1,6 @@
 -- Proof. Answers and contents that the plain file system refuses.
-use Rattle.std.proofs.Common.{◌≡◌, ◌≢◌, ◌<◌, inl, inr, ℕ, List, [], ◌∷◌, length, Bool, true, false, Option, Some}
-use Rattle.std.proofs.Common.{None, refl, sym, ap, subst, ◌∙◌, arith, cond, slice_get}
+use Rattle.std.proofs.Common.{◌≡◌, ◌≢◌, ◌<◌, ℕ, List, [], ◌∷◌, length, Bool, true, false, Option, Some, None, sym, ap}
+use Rattle.std.proofs.Common.{◌∙◌, arith, slice_get}
 use Rattle.pt_host.specs.Contents.{ObjectContents}
 use Rattle.pt_host.specs.Tree.{Object}
 use Rattle.pt_host.specs.declared.ids.Errno.{Errno}
@@ -15,9 +15,8 @@ use Rattle.pt_iface.specs.declared.answer.Answer.TheVariants as answer
 use Rattle.pt_iface.specs.declared.request.Request.TheVariants as request
 use Rattle.pt_req.specs.declared.plan.Plan.{Plan}
 use Rattle.pt_law.specs.Under.{Identity}
-use Rattle.pt_law.proofs.Lists.{set_at_other, set_at_same}
+use Rattle.pt_law.proofs.Lists.{set_at_other}
 use Rattle.pt_fit.specs.Asker.{asker_in}
-use Rattle.pt_rules.specs.ContentCalls.{written}
 use Rattle.pt_plain.specs.Plain.{Handled, handled_as, numbered_as, Numbered}
 use Rattle.pt_filled.specs.Contents.{FilledTree, is_file, keeps_set_id, overwritten, with_changed, uncapped}
 use Rattle.pt_filled.specs.Fills.{Fills}

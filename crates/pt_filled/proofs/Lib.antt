@@ -29,4 +29,5 @@ pub mod Setting
 pub mod Attributes
 pub mod Editing
 pub mod Valued
+pub mod Valuing
 pub mod ExampleRefused

@@ -116,7 +116,7 @@ reaches_none : (w x : Full) (are : ℕ → ObjectContents) → Alters w x are �
 reaches_none w x are a = record { tree = refl; quiet = quiet_none (world_of x); alters = a }
 
 -- the object of a descriptor was there as the job began
-within_at : (w x : Full) (are : ℕ → ObjectContents) (fd : Fd) (object : ℕ) → Alters w x are → IsSound x.state →
+pub within_at : (w x : Full) (are : ℕ → ObjectContents) (fd : Fd) (object : ℕ) → Alters w x are → IsSound x.state →
     IsOpenOn (world_of x).tree fd object → object < length (objects_at w)
 within_at w x are fd object a s o =
     subst (λ (z : List Object). object < length z) a.objects (open_within x fd object s o)
