@@ -149,7 +149,7 @@ module _ (plan : Plan) (who : Context) (agreed : Negotiated) (j : Thread) (w : F
   fills_in_session (request.SetAttr inode handle valid attr) f r a v c =
       fills_setattr plan who agreed inode handle valid attr j w last w' state after g n f r c
   fills_in_session (request.SetXattr inode name value flags extra) f r a v c =
-      fills_setxattr plan who j w last w' state after g n f.1 inode name value flags extra f.0 c
+      fills_setxattr plan who j w last w' state after g n f inode name value flags extra c
   fills_in_session (request.GetXattr inode name size) f r a v c =
       fills_getxattr plan who j w last w' state after g n inode name size c
   fills_in_session (request.Unlink parent name) f r a v c =

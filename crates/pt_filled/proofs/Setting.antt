@@ -54,7 +54,8 @@ use Rattle.pt_filled.proofs.Filling.{open_within}
 use Rattle.pt_filled.proofs.Writing.{keeps_by, walk_uncapped, walk_without}
 use Rattle.pt_filled.proofs.Effects.{was_moded, was_owned, was_sized, was_timed}
 
-still_mode : (fd : Fd) (through : Bool) (mode : ℕ) (told : ActReply) → IsStill (Calls (call.ChMod fd through mode)) told
+pub still_mode : (fd : Fd) (through : Bool) (mode : ℕ) (told : ActReply) → IsStill (Calls (call.ChMod fd through
+    mode)) told
 still_mode fd through mode (Host told) = tt
 still_mode fd through mode (Event told) = tt
 still_mode fd through mode NoCopy = tt
@@ -82,7 +83,7 @@ idle_at object are other = ⊎_elim
     ap (with_changed object (λ was. was) are) q ∙ set_at_same are object (are object) ∙ ap are (sym q))
     (λ (q : other ≢ object). set_at_other are object (are object) other q) (cases_eq other object)
 
-alters_idle : (w x : Full) (are : ℕ → ObjectContents) (object : ℕ) → Alters w x are →
+pub alters_idle : (w x : Full) (are : ℕ → ObjectContents) (object : ℕ) → Alters w x are →
     Alters w x (with_changed object (λ was. was) are)
 alters_idle w x are object a = record {
   objects = a.objects;

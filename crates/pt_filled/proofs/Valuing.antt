@@ -1,5 +1,5 @@
 -- Proof. `setxattr`, and what a name has once it is given a value.
-use Rattle.std.specs.Prelude.{◌&&◌, ◌||◌}
+use Rattle.std.specs.Prelude.{◌&&◌, ◌||◌, ◌-◌, ◌/◌, ◌*◌, ◌+◌, if◌then◌else◌}
 use Rattle.std.specs.Cmp.Lexicographic.{slice_cmp}
 use Rattle.std.specs.List.{list_any}
 use Rattle.std.specs.Map.{update}
@@ -8,18 +8,22 @@ use Rattle.std.specs.Str.{bytes_eq}
 use Rattle.std.specs.declared.cmp.Ordering.{Ordering}
 use Rattle.std.specs.declared.cmp.Ordering.TheVariants.{Less, Equal, Greater}
 use Rattle.std.proofs.Common.{[], ◌∷◌, ◌≡◌, ◌≢◌, ℕ, List, Bool, true, false, Option, Some, None, refl, sym, ap, subst}
-use Rattle.std.proofs.Common.{◌∙◌, Result, Ok, Err, ◌==◌, cond, is_none, is_some, inl, length, nat_lt}
+use Rattle.std.proofs.Common.{◌∙◌, Result, Ok, Err, ◌==◌, cond, is_none, is_some, inl, length, nat_lt, ◌%◌, ◌<◌}
+use Rattle.std.proofs.Common.{arith, inr, ⊎_elim}
 use Rattle.std.proofs.lemmas.Cmp.{nat_list_eq_equiv}
 use Rattle.std.proofs.lemmas.Map.Text.{is_eq-slice_cmp}
+use Rattle.std.proofs.lemmas.Bool.{cases_eq}
 use Rattle.pt_host.specs.Contents.{ObjectContents}
 use Rattle.pt_host.specs.Errno.{e2big, ebadf, eexist, einval, enodata, enosys, erange}
-use Rattle.pt_host.specs.Flags.{includes}
-use Rattle.pt_host.specs.Tree.{IsOpenOn}
+use Rattle.pt_host.specs.Tree.{IsOpenOn, Tree, Object}
+use Rattle.pt_host.specs.Words.{set_at}
 use Rattle.pt_host.specs.declared.ids.Errno.{Errno}
 use Rattle.pt_host.specs.declared.ids.Fd.{Fd}
 use Rattle.pt_host.specs.declared.reply.HostValue.{HostValue}
+use Rattle.pt_host.specs.declared.stat.Stat.{Stat}
 use Rattle.pt_host.specs.declared.op.KeptHostOp.TheVariants as call
 use Rattle.pt_host.specs.declared.reply.HostReply.TheVariants as host
+use Rattle.pt_host.specs.declared.reply.HostValue.TheVariants as value
 use Rattle.pt_tables.specs.declared.form.Negotiated.{Negotiated}
 use Rattle.pt_tables.specs.declared.reply.Resolved.{Resolved}
 use Rattle.pt_iface.specs.declared.answer.Answer.{Answer}
@@ -32,19 +36,20 @@ use Rattle.pt_frame.specs.Deed.{Calls}
 use Rattle.pt_frame.specs.Tree.{Gives, RequestTree}
 use Rattle.pt_frame.specs.declared.act.ActReply.{ActReply}
 use Rattle.pt_frame.specs.declared.act.ActReply.TheVariants.{Event, Host, NoCopy}
-use Rattle.pt_req.specs.Attributes.{acl_access}
 use Rattle.pt_req.specs.Capability.{capability_cleared}
 use Rattle.pt_req.specs.Steps.{begin}
 use Rattle.pt_req.specs.declared.begun.BegunSession.{BegunSession}
 use Rattle.pt_req.specs.declared.plan.Plan.{Plan}
 use Rattle.pt_attr.specs.Steps.{do_call}
-use Rattle.pt_xattr.specs.Parts.{allowed, kills_sgid, nul_free, sgid_killed, with_xattr, xattr_file}
+use Rattle.pt_xattr.specs.Parts.{allowed, kills_sgid, nul_free, sgid_killed, with_xattr, xattr_file, without_sgid}
 use Rattle.pt_xattr.specs.Requests.{setxattr}
 use Rattle.pt_xattr.specs.declared.parts.XattrFile.{XattrFile}
 use Rattle.pt_law.specs.World.{fd_of, made}
+use Rattle.pt_law.proofs.Lists.{set_at_same, set_at_other}
 use Rattle.pt_node.specs.Attributes.{value_of, with_value}
 use Rattle.pt_node.specs.Limits.{xattr_name_max, xattr_value_max}
 use Rattle.pt_node.specs.Opening.{first_refusal}
+use Rattle.pt_node.specs.Node.{kind_number}
 use Rattle.pt_node.specs.declared.node.Node.{Node}
 use Rattle.pt_node.specs.declared.slots.OpenFile.{OpenFile}
 use Rattle.pt_rules.specs.AttributeCalls.{does_not_serve, set_xattr_checks, set_xattr_row}
@@ -52,17 +57,18 @@ use Rattle.pt_rules.specs.Rows.{Row}
 use Rattle.pt_rules.specs.State.{contents_where, tree_of}
 use Rattle.pt_plain.specs.Plain.{PlainTree}
 use Rattle.pt_plain.proofs.Stilling.{IsStill}
-use Rattle.pt_filled.specs.Contents.{sgid_taken, uncapped, valued, with_changed}
+use Rattle.pt_filled.specs.Contents.{IsSame, sgid_taken, uncapped, valued, with_changed}
 use Rattle.pt_filled.specs.Fills.{Fills, IsFit}
-use Rattle.pt_filled.specs.Filled.{LeavesSetGroup}
 use Rattle.pt_filled.specs.Told.{name_held}
-use Rattle.pt_filled.proofs.Effects.{objects_still, ok_has, rowed, row_there, same_parts}
+use Rattle.pt_filled.proofs.Effects.{was_moded, was_seen, objects_still, ok_has, rowed, row_there, same_parts}
+use Rattle.pt_filled.proofs.Hosting.{Keeps, world_of, Alters, Full, Steps, Thread, alters_on, alters_then}
+use Rattle.pt_filled.proofs.Hosting.{contents_at}
+use Rattle.pt_filled.proofs.Parts.{keeps_on, leaves_keeps, walk_stat, At, IsRefused, comes_at, idles_calm}
+use Rattle.pt_filled.proofs.Parts.{refused_from, refused_with, walk_begin, walk_do, walk_if, walk_unless}
+use Rattle.pt_filled.proofs.Setting.{alters_idle, still_mode, within_at}
+use Rattle.pt_filled.proofs.Tails.{stat_leaves}
 use Rattle.pt_filled.proofs.Filling.{Between, filled, IsFilledBy, refused_fills, become}
-use Rattle.pt_filled.proofs.Finding.{Found, same_at, walk_found}
-use Rattle.pt_filled.proofs.Hosting.{Alters, Full, Steps, Thread, alters_on, alters_then, contents_at}
-use Rattle.pt_filled.proofs.Parts.{At, IsRefused, comes_at, idles_calm, refused_from, refused_with, walk_begin}
-use Rattle.pt_filled.proofs.Parts.{walk_do, walk_if, walk_unless}
-use Rattle.pt_filled.proofs.Setting.{within_at}
+use Rattle.pt_filled.proofs.Finding.{Found, walk_found}
 use Rattle.pt_filled.proofs.Tables.{alters_row}
 use Rattle.pt_filled.proofs.Threading.{Comes, Makes}
 use Rattle.pt_filled.proofs.Valued.{IsHeldAs, walk_name, walk_xattr_file}
@@ -174,23 +180,121 @@ still_valued fd through name bytes flags NoCopy = tt
 
 -- ---- the request
 
-stays_so : (a b c : Bool) → b ≡ false → (a && b && c) ≡ false
-stays_so true true c e = absurd (cc)
-stays_so true false c e = refl
-stays_so false b c e = refl
+-- the set-group-id bit goes, as the status tells the mode
+bits : (a b : Bool) (m q : ℕ) → a ≡ b → m ≡ q → m < 4096 →
+    (if a then m - 1024 else m) % 4096 ≡ (if b then q - 1024 else q)
+bits true true m q e f l = omega (arith, f, l)
+bits false false m q e f l = omega (arith, f, l)
+bits true false m q e f l = absurd (cc)
+bits false true m q e f l = absurd (cc)
 
-walk_kept : {G : Type 0} (j : Thread) (kills : Bool) (file : XattrFile) (next : RequestTree) (w : Full) (last : Answer)
-    (w' : Full) → kills ≡ false → At j (sgid_killed kills file next) w last w' → (At j next w last w' → G) → G
-walk_kept j true file next w last w' e c goes = absurd (cc)
-walk_kept j false file next w last w' e c goes = goes c
+below : (n : ℕ) → n % 4096 < 4096
+below n = omega arith
+
+third : (k p : ℕ) → (4096 * k + p) / 1024 % 2 ≡ p / 1024 % 2
+third k p = omega arith
+
+low : (k p : ℕ) → (4096 * k + p) % 4096 ≡ p % 4096
+low k p = omega arith
+
+small_bits : (b : Bool) (q : ℕ) → q < 4096 → (if b then q - 1024 else q) < 4096
+small_bits true q l = omega (arith, l)
+small_bits false q l = l
+
+taken_is : (k p : ℕ) → without_sgid (4096 * k + p) % 4096 ≡ without_sgid p
+taken_is k p =
+    bits ((4096 * k + p) / 1024 % 2 == 1) (p / 1024 % 2 == 1) ((4096 * k + p) % 4096) (p % 4096)
+    (ap (λ (n : ℕ). n == 1) (third k p)) (low k p) (below (4096 * k + p))
+
+-- one object is changed twice
+changed_twice : (object : ℕ) (one later : ObjectContents → ObjectContents) (are : ℕ → ObjectContents) (other : ℕ) →
+    with_changed object later (with_changed object one are) other
+    ≡ with_changed object (λ was. later (one was)) are other
+changed_twice object one later are other = ⊎_elim
+    (λ (q : other ≡ object). ap (with_changed object later (with_changed object one are)) q
+    ∙ set_at_same (with_changed object one are) object (later (with_changed object one are object))
+    ∙ ap later (set_at_same are object (one (are object)))
+    ∙ sym (ap (with_changed object (λ was. later (one was)) are) q
+    ∙ set_at_same are object (later (one (are object)))))
+    (λ (q : other ≢ object).
+    set_at_other (with_changed object one are) object (later (with_changed object one are object)) other q
+    ∙ set_at_other are object (one (are object)) other q
+    ∙ sym (set_at_other are object (later (one (are object))) other q))
+    (cases_eq other object)
+
+alters_twice : (w x : Full) (object : ℕ) (one later : ObjectContents → ObjectContents) →
+    Alters w x (with_changed object later (with_changed object one (contents_at w))) →
+    Alters w x (with_changed object (λ was. later (one was)) (contents_at w))
+alters_twice w x object one later a = record {
+  objects = a.objects;
+  same = λ other l. subst (λ (c : ObjectContents). IsSame c (contents_at x other))
+      (changed_twice object one later (contents_at w) other) (a.same other l);
+}
+
+-- as the status told the mode, so it is without the bit
+was_taken : (j : Thread) (w e x : Full) (fd : Fd) (through : Bool) (told : Stat) (said : HostValue) (object : ℕ) →
+    Steps j w (made (Calls (call.Stat fd)) (Host (host.Ok (value.Stat told)))) e →
+    Steps j e (made (Calls (call.ChMod fd through (without_sgid told.mode))) (Host (host.Ok said))) x →
+    IsOpenOn (tree_of w.state) fd object → IsOpenOn (tree_of e.state) fd object →
+    IsSame (contents_at w object) (contents_at e object) →
+    Alters e x (with_changed object (sgid_taken true) (contents_at e))
+was_taken j w e x fd through told said object s t ow oe same =
+    let seen = was_seen j w e fd told object s ow in
+    let kind = kind_number seen.node.content in
+    let mode : (contents_at e object).mode ≡ seen.node.permissions =
+    ap (λ (c : ObjectContents). c.mode) same
+    ∙ ap (λ (n : Option Node). (contents_where n).mode) seen.there in
+    let taken : without_sgid told.mode % 4096 ≡ without_sgid (contents_at e object).mode =
+    ap (λ (stat : Stat). without_sgid stat.mode % 4096) seen.is ∙ taken_is kind seen.node.permissions
+    ∙ ap without_sgid (sym mode) in
+    let a = was_moded j e x fd through (without_sgid told.mode) said object t oe in
+    subst (λ (c : ObjectContents). Alters e x (set_at object c (contents_at e)))
+    (ap (λ (m : ℕ). record (contents_at e object) { mode = m }) taken) a
+
+-- before the value comes
+record Readied (w e : Full) (object : ℕ) (kills : Bool) (fd : Fd) : Type 0 where
+  alters : Alters w e (with_changed object (sgid_taken kills) (contents_at w))
+  open_on : IsOpenOn (world_of e).tree fd object
+
+walk_killed : {G : Type 0} (j : Thread) (kills : Bool) (file : XattrFile) (next : RequestTree) (w d : Full)
+    (last : Answer) (w' : Full) (object : ℕ) → last ≢ answer.NoMemory → Keeps w d →
+    IsOpenOn (world_of d).tree file.fd object → At j (sgid_killed kills file next) d last w' → (IsRefused w last w' →
+    G) → ((e : Full) → Readied w e object kills file.fd → At j next e last w' → G) → G
+walk_killed j false file next w d last w' object n k o c out goes =
+    goes d (record { alters = alters_idle w d (contents_at w) object k; open_on = o }) c
+walk_killed j true file next w d last w' object n k o c out goes =
+    walk_stat j file.fd _ d last w' n c (λ r. out (refused_from w d last w' k r)) (λ told e m c.
+    let kept = leaves_keeps j d e (Calls (call.Stat file.fd)) (Host (host.Ok (value.Stat told))) m
+    (stat_leaves file.fd (Host (host.Ok (value.Stat told)))) in
+    let oe = later d e m.2.goes.made.0.0.trees.changes.5 o in
+    walk_do j (call.ChMod file.fd file.through (without_sgid told.mode)) next e last w' n
+    (λ said z. still_mode file.fd file.through (without_sgid told.mode) said) c
+    (λ r. out (refused_from w e last w' (keeps_on w d e k kept) r)) (λ said x t c.
+    let within = within_at w d (contents_at w) file.fd object k m.2.made.0.sound o in
+    let whole = keeps_on w d e k kept in
+    goes x (record {
+      alters = alters_on w e x (contents_at w) object (sgid_taken true) within (λ p q z. ap (λ (c : ObjectContents).
+          record (sgid_taken true c) { atime = q.atime; mtime = q.mtime; ctime = q.ctime }) z) whole
+          (was_taken j d e x file.fd file.through told said object m.2 t.2 o oe
+          (kept.same object (subst (λ (z : List Object). object < length z) (sym k.objects) within)));
+      open_on = later e x t.2.goes.made.0.0.trees.changes.1 oe;
+    }) c))
+  where
+    later : (x y : Full) → (world_of y).tree ≡ (world_of x).tree → IsOpenOn (world_of x).tree file.fd object →
+        IsOpenOn (world_of y).tree file.fd object
+    later x y e o = subst (λ (t : Tree). IsOpenOn t file.fd object) (sym e) o
+
+xattrs_kept : (kills : Bool) (was : ObjectContents) → (sgid_taken kills was).xattrs ≡ was.xattrs
+xattrs_kept true was = refl
+xattrs_kept false was = refl
 
 module _ (plan : Plan) (who : Context) (j : Thread) (w : Full) (last : Answer) (w' : Full) (state after : PlainTree)
     (g : Between w w' state after) (n : last ≢ answer.NoMemory) (uncaps : plan.capability ≡ None) where
-  pub fills_setxattr : (inode : ℕ) (name value : List ℕ) (flags : ℕ) (extra : SetxattrFlags) → LeavesSetGroup extra →
+  pub fills_setxattr : (inode : ℕ) (name value : List ℕ) (flags : ℕ) (extra : SetxattrFlags) →
       At j (begin (setxattr plan inode name value flags extra)) w last w' →
       IsFilledBy plan j.seat who (request.SetXattr inode name value flags extra) state w last after w'
   unfolding with_xattr nul_free allowed
-  fills_setxattr inode name value flags extra leaves c =
+  fills_setxattr inode name value flags extra c =
       walk_begin j _ w last w' n c out (λ session b q z k.
       walk_unless j plan.config.xattr enosys _ b last w' k (λ r. out (refused_from w b last w' q.keeps r)) (λ can k.
       walk_if j (list_any (λ byte. byte == 0) name) einval _ b last w' k (λ r. out (refused_from w b last w' q.keeps
@@ -207,39 +311,69 @@ module _ (plan : Plan) (who : Context) (j : Thread) (w : Full) (last : Answer) (
       setting : XattrFile → List ℕ → RequestTree
       setting file held = do_call (call.SetXattr file.fd file.through held value flags) (Gives answer.Done)
 
-      becomes : (held : List ℕ) (object : ℕ) → Alters w w' (with_changed object (valued held (Some value))
-          (contents_at w)) →
-          Alters w w' (with_changed object (λ was. valued held (Some value)
-          (sgid_taken (kills_sgid state.agreed extra held) (uncapped plan.capability was))) (contents_at w))
-      becomes held object al =
-          let kept = stays_so state.agreed.posix_acl (includes extra.0 1) (bytes_eq held acl_access) leaves in
-          subst (λ (p : Bool × Option (List ℕ)). Alters w w' (with_changed object (λ was. valued held (Some value)
-          (sgid_taken p.0 (uncapped p.1 was))) (contents_at w))) (λ i. (sym kept i, sym uncaps i)) al
+      kills : List ℕ → Bool
+      kills held = kills_sgid state.agreed extra held
 
-      is_set : (held : List ℕ) → name_held plan state.agreed name ≡ Some held → (file : XattrFile) (e h : Full) →
-          Found w e state inode file.fd → (told : HostValue) →
+      -- where no rule gives the attribute of capabilities another name
+      uncapped_so : (P : Option (List ℕ) → Type 0) → P None → P plan.capability
+      uncapped_so P p = subst P (sym uncaps) p
+
+      is_set : (held : List ℕ) → name_held plan state.agreed name ≡ Some held → (file : XattrFile) (d e h : Full)
+          (f : Found w d state inode file.fd) → Readied w e f.object (kills held) file.fd → (told : HostValue) →
           Makes j e (Calls (call.SetXattr file.fd file.through held value flags)) (Host (host.Ok told)) h →
           Comes j (Gives answer.Done) h last w' → IsFilledBy plan j.seat who asked state w last after w'
-      is_set held is file e h f told m k =
-          let was = was_set j e h file.fd file.through held value flags told f.object m.2 f.open_on in
-          let same = ap (λ (c : ObjectContents). c.xattrs held) (same_at w e file.fd f.object f.calm
-          m.2.made.0.sound f.open_on) in
-          let fit = subst (λ (name : Option (List ℕ)). IsFit flags ((uncapped name (contents_at w f.object)).xattrs
-          held)) (sym uncaps) (subst (IsFit flags) same was.0) in
-          let whole = alters_on w e h (contents_at w) f.object (valued held (Some value))
-          (within_at w e (contents_at w) file.fd f.object f.calm.keeps m.2.made.0.sound f.open_on)
-          (λ p q z. ap (λ (c : ObjectContents). record (valued held (Some value) c) {
+      is_set held is file d e h f r told m k =
+          let was = was_set j e h file.fd file.through held value flags told f.object m.2 r.open_on in
+          let within = within_at w e _ file.fd f.object r.alters m.2.made.0.sound r.open_on in
+          let same : (contents_at e f.object).xattrs held ≡ (contents_at w f.object).xattrs held =
+          ap (λ (c : ObjectContents). c.xattrs held) (r.alters.same f.object within)
+          ∙ ap (λ (c : ObjectContents). c.xattrs held) (set_at_same (contents_at w) f.object
+          (sgid_taken (kills held) (contents_at w f.object)))
+          ∙ ap (λ (x : List ℕ → Option (List ℕ)). x held) (xattrs_kept (kills held) (contents_at w f.object)) in
+          let whole = alters_twice w h f.object (sgid_taken (kills held)) (valued held (Some value))
+          (alters_on w e h (with_changed f.object (sgid_taken (kills held)) (contents_at w)) f.object
+          (valued held (Some value)) within (λ p q z. ap (λ (c : ObjectContents). record (valued held (Some value) c) {
             atime = q.atime;
             mtime = q.mtime;
             ctime = q.ctime;
-          }) z) f.calm.keeps was.1 in
-          let at_end = alters_then w h w' (with_changed f.object (valued held (Some value)) (contents_at w)) whole
-          (idles_calm j h w' k.1).keeps in
+          }) z) r.alters was.1) in
+          let at_end = alters_then w h w' _ whole (idles_calm j h w' k.1).keeps in
           subst (λ (x : Answer). Fills plan j.seat who asked (filled state w) x (filled after w')) (sym k.0) (
             f.object,
             f.stands,
-            (held, is, (fit, become w w' state after _ g.shows (becomes held f.object at_end))),
+            (
+              held,
+              is,
+              (
+                uncapped_so (λ name. IsFit flags ((uncapped name (contents_at w f.object)).xattrs held))
+                    (subst (IsFit flags) same was.0),
+                become w w' state after _ g.shows (uncapped_so (λ cap. Alters w w' (with_changed f.object
+                    (λ was. valued held (Some value) (sgid_taken (kills held) (uncapped cap was))) (contents_at w)))
+                    at_end),
+              ),
+            ),
           )
+
+      front : (held : List ℕ) → name_held plan state.agreed name ≡ Some held → (file : XattrFile) (d e : Full)
+          (f : Found w d state inode file.fd) → Readied w e f.object (kills held) file.fd → IsRefused e last w' →
+          IsFilledBy plan j.seat who asked state w last after w'
+      front held is file d e f r z =
+          subst (λ (x : Answer). Fills plan j.seat who asked (filled state w) x (filled after w')) (sym z.is) (inr (
+            f.object,
+            f.stands,
+            (
+              held,
+              is,
+              (
+                kills held,
+                λ k. k,
+                become w w' state after _ g.shows
+                    (uncapped_so (λ cap. Alters w w' (with_changed f.object
+                    (λ was. sgid_taken (kills held) (uncapped cap was)) (contents_at w)))
+                    (alters_then w e w' _ r.alters z.keeps)),
+              ),
+            ),
+          ))
 
       by_name : (session : BegunSession) (row : Resolved) (d : Full) → session.agreed ≡ w.tables.negotiated →
           Found w d state inode (fd_of row.form) → (found : Result (List ℕ) Errno) →
@@ -253,10 +387,15 @@ module _ (plan : Plan) (who : Context) (j : Thread) (w : Full) (last : Answer) (
       by_name session row d z f (Ok held) is c =
           walk_xattr_file plan session j inode row _ w d last w' state g.shows n f c out (λ file e f k.
           walk_uncapped j plan.capability file.fd file.through _ e last w' uncaps k (λ k.
-          walk_kept j (kills_sgid session.agreed extra held) file (setting file held) e last w'
-          (stays_so session.agreed.posix_acl (includes extra.0 1) (bytes_eq held acl_access) leaves) k (λ k.
-          walk_do j (call.SetXattr file.fd file.through held value flags) (Gives answer.Done) e last w' n
-          (λ told z. still_valued file.fd file.through held value flags told) k
-          (λ r. out (refused_from w e last w' f.calm.keeps r)) (λ told h m k.
-          is_set held (ap (λ (x : Negotiated). name_held plan x name) (g.shows.agreed ∙ sym z) ∙ is held refl)
-          file e h f told m (comes_at k)))))
+          walk_killed j (kills held) file (setting file held) w e last w' f.object n f.calm.keeps f.open_on
+          (subst (λ (x : Negotiated). At j (sgid_killed (kills_sgid x extra held) file (setting file held)) e last w')
+          agreed k) out (λ h r k.
+          walk_do j (call.SetXattr file.fd file.through held value flags) (Gives answer.Done) h last w' n
+          (λ told z. still_valued file.fd file.through held value flags told) k (front held held_so file e h f r)
+          (λ told x m k. is_set held held_so file e h x f r told m (comes_at k)))))
+        where
+          agreed : session.agreed ≡ state.agreed
+          agreed = z ∙ sym g.shows.agreed
+
+          held_so : name_held plan state.agreed name ≡ Some held
+          held_so = ap (λ (x : Negotiated). name_held plan x name) (sym agreed) ∙ is held refl

@@ -1,7 +1,5 @@
 -- Believed. The jobs of which contents are said: not yet those that this file leaves out.
-use Rattle.std.specs.Prelude.{◌≡◌, false, None}
-use Rattle.pt_host.specs.Flags.{includes}
-use Rattle.pt_iface.specs.declared.flags.SetxattrFlags.{SetxattrFlags}
+use Rattle.std.specs.Prelude.{◌≡◌, None}
 use Rattle.pt_iface.specs.declared.request.Extensions.{Extensions}
 use Rattle.pt_iface.specs.declared.request.Request.{Request}
 use Rattle.pt_iface.specs.declared.request.Request.TheVariants as request
@@ -16,10 +14,6 @@ LeavesCapabilities plan = plan.capability ≡ None
 abbrev pub BringsNone : Extensions → Type 0
 BringsNone ext = ext.secctx ≡ None
 
--- the guest does not ask that an access control list take the set-group-id bit
-abbrev pub LeavesSetGroup : SetxattrFlags → Type 0
-LeavesSetGroup extra = includes extra.0 1 ≡ false
-
 abbrev pub IsFilledRequest : Plan → Request → Type 0
 IsFilledRequest plan (request.Write inode handle offset bytes delayed kill flags) = LeavesCapabilities plan
 IsFilledRequest plan (request.Open inode kill flags) = LeavesCapabilities plan
@@ -30,8 +24,7 @@ IsFilledRequest plan (request.SetAttr inode handle valid attr) = LeavesCapabilit
 IsFilledRequest plan (request.Mkdir parent name mode umask ext) = BringsNone ext
 IsFilledRequest plan (request.Mknod parent name mode rdev umask ext) = BringsNone ext
 IsFilledRequest plan (request.Symlink target parent name ext) = BringsNone ext
-IsFilledRequest plan (request.SetXattr inode name value flags extra) =
-    LeavesSetGroup extra × LeavesCapabilities plan
+IsFilledRequest plan (request.SetXattr inode name value flags extra) = LeavesCapabilities plan
 IsFilledRequest plan (request.ListXattr inode size) = ⊥
 IsFilledRequest plan (request.RemoveXattr inode name) = ⊥
 IsFilledRequest plan (request.ReadDir inode handle size offset) = ⊥
