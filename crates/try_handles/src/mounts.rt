@@ -86,15 +86,16 @@ fn take_by_path(made: &mut Made, words: &mut Words<'_>, out: &mut Vec<u8>) -> Re
     let with_table: bool = next(words)?;
     let dir: Fd = next(words)?;
     let path: Bytes = last(words)?;
-    if with_table && made.mounts.is_none() {
-        return Err(Trouble::Bad);
-    }
-    let mounts = if with_table {
-        made.mounts.as_mut()
+    let (host, seat) = (&mut made.host, &mut made.seat);
+    let held = if with_table {
+        let Some(mounts) = &mut made.mounts else {
+            return Err(Trouble::Bad);
+        };
+        MountFd::new(Some(mounts), host, seat, dir, path.as_slice())
     } else {
-        None
+        MountFd::new(None, host, seat, dir, path.as_slice())
     };
-    match MountFd::new(mounts, &mut made.host, &mut made.seat, dir, path.as_slice()) {
+    match held {
         Ok(mount) => {
             push_text(out, b" Ok")?;
             push_mount(out, &mount)?;
