@@ -44,6 +44,7 @@ use Rattle.pt_filled.proofs.Openings.{fills_open, fills_open_dir}
 use Rattle.pt_filled.proofs.Parts.{At, At.{by}, by_calm, comes_at, IsRefused, keeps_on, leaves_keeps, refused_at}
 use Rattle.pt_filled.proofs.Parts.{refused_from, refused_with, walk_begin}
 use Rattle.pt_filled.proofs.Reading.{fills_access, fills_getattr, fills_read, fills_readlink, fills_statfs}
+use Rattle.pt_filled.proofs.Removing.{fills_removexattr}
 use Rattle.pt_filled.proofs.Seeking.{fills_lseek}
 use Rattle.pt_filled.proofs.Staying.{fills_batch_forget, fills_destroy, fills_flush, fills_forget, fills_fsync}
 use Rattle.pt_filled.proofs.Staying.{fills_fsync_dir, fills_init, fills_release, fills_release_dir, fills_root}
@@ -152,6 +153,8 @@ module _ (plan : Plan) (who : Context) (agreed : Negotiated) (j : Thread) (w : F
       fills_setxattr plan who j w last w' state after g n f inode name value flags extra c
   fills_in_session (request.GetXattr inode name size) f r a v c =
       fills_getxattr plan who j w last w' state after g n inode name size c
+  fills_in_session (request.RemoveXattr inode name) f r a v c =
+      fills_removexattr plan who j w last w' state after g n inode name c
   fills_in_session (request.Unlink parent name) f r a v c =
       fills_unlink plan who j w last w' state after g n parent name c
   fills_in_session (request.Rmdir parent name) f r a v c = fills_rmdir plan who j w last w' state after g n parent

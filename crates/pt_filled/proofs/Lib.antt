@@ -30,4 +30,5 @@ pub mod Attributes
 pub mod Editing
 pub mod Valued
 pub mod Valuing
+pub mod Removing
 pub mod ExampleRefused

@@ -1,17 +1,11 @@
 -- Proof. `setxattr`, and what a name has once it is given a value.
 use Rattle.std.specs.Prelude.{◌&&◌, ◌||◌, ◌-◌, ◌/◌, ◌*◌, ◌+◌, if◌then◌else◌}
-use Rattle.std.specs.Cmp.Lexicographic.{slice_cmp}
 use Rattle.std.specs.List.{list_any}
 use Rattle.std.specs.Map.{update}
-use Rattle.std.specs.Ordering.{nat_cmp, is_eq, match_ordering}
 use Rattle.std.specs.Str.{bytes_eq}
-use Rattle.std.specs.declared.cmp.Ordering.{Ordering}
-use Rattle.std.specs.declared.cmp.Ordering.TheVariants.{Less, Equal, Greater}
 use Rattle.std.proofs.Common.{[], ◌∷◌, ◌≡◌, ◌≢◌, ℕ, List, Bool, true, false, Option, Some, None, refl, sym, ap, subst}
-use Rattle.std.proofs.Common.{◌∙◌, Result, Ok, Err, ◌==◌, cond, is_none, is_some, inl, length, nat_lt, ◌%◌, ◌<◌}
+use Rattle.std.proofs.Common.{◌∙◌, Result, Ok, Err, ◌==◌, is_none, is_some, inl, length, nat_lt, ◌%◌, ◌<◌}
 use Rattle.std.proofs.Common.{arith, inr, ⊎_elim}
-use Rattle.std.proofs.lemmas.Cmp.{nat_list_eq_equiv}
-use Rattle.std.proofs.lemmas.Map.Text.{is_eq-slice_cmp}
 use Rattle.std.proofs.lemmas.Bool.{cases_eq}
 use Rattle.pt_host.specs.Contents.{ObjectContents}
 use Rattle.pt_host.specs.Errno.{e2big, ebadf, eexist, einval, enodata, enosys, erange}
@@ -53,6 +47,7 @@ use Rattle.pt_node.specs.Node.{kind_number}
 use Rattle.pt_node.specs.declared.node.Node.{Node}
 use Rattle.pt_node.specs.declared.slots.OpenFile.{OpenFile}
 use Rattle.pt_rules.specs.AttributeCalls.{does_not_serve, set_xattr_checks, set_xattr_row}
+use Rattle.pt_rules.specs.Laws.NameTable.{found-named}
 use Rattle.pt_rules.specs.Rows.{Row}
 use Rattle.pt_rules.specs.State.{contents_where, tree_of}
 use Rattle.pt_plain.specs.Plain.{PlainTree}
@@ -76,48 +71,10 @@ use Rattle.pt_filled.proofs.Writing.{walk_uncapped}
 
 -- ---- a name after one is given a value
 
-twice : {A : Type 0} (b : Bool) (x y z : A) → cond b x z ≡ cond b x (cond b y z)
-twice true x y z = refl
-twice false x y z = refl
-
-swapped : {A : Type 0} (b c : Bool) (x y z : A) → (b ≡ true → c ≡ true → ⊥) →
-    cond b x (cond c y z) ≡ cond c y (cond b x z)
-swapped true true x y z apart = absurd (apart refl refl)
-swapped true false x y z apart = refl
-swapped false true x y z apart = refl
-swapped false false x y z apart = refl
-
-valued_at : (o : Ordering) (q name v : List ℕ) (entry : List ℕ × List ℕ) (more : List (List ℕ × List ℕ)) →
-    slice_cmp nat_cmp name entry.0 ≡ o →
-    value_of q (with_value name v more) ≡ cond (bytes_eq name q) (Some v) (value_of q more) →
-    value_of q (match_ordering o ((name, v) ∷ entry ∷ more) ((entry.0, v) ∷ more) (entry ∷ with_value name v more))
-    ≡ cond (bytes_eq name q) (Some v) (value_of q (entry ∷ more))
-valued_at Less q name v entry more is later =
-    ap (λ b. cond b (Some v) (value_of q (entry ∷ more))) (nat_list_eq_equiv.symm q name)
-valued_at Equal q name v entry more is later =
-    let same : bytes_eq name entry.0 ≡ true = sym (is_eq-slice_cmp name entry.0) ∙ ap is_eq is in
-    let test : bytes_eq q entry.0 ≡ bytes_eq name q =
-    nat_list_eq_equiv.symm q entry.0 ∙ sym (nat_list_eq_equiv.congr name entry.0 q same) in
-    ap (λ b. cond b (Some v) (value_of q more)) test
-    ∙ twice (bytes_eq name q) (Some v) (Some entry.1) (value_of q more)
-    ∙ ap (λ b. cond (bytes_eq name q) (Some v) (cond b (Some entry.1) (value_of q more))) (sym test)
-valued_at Greater q name v entry more is later =
-    let apart : bytes_eq name entry.0 ≡ false = sym (is_eq-slice_cmp name entry.0) ∙ ap is_eq is in
-    ap (cond (bytes_eq q entry.0) (Some entry.1)) later
-    ∙ swapped (bytes_eq q entry.0) (bytes_eq name q) (Some entry.1) (Some v) (value_of q more) (λ one other.
-    (let e : bytes_eq name entry.0 ≡ true = nat_list_eq_equiv.congr name q entry.0 other ∙ one in
-    let f : true ≡ false = sym e ∙ apart in cc))
-
-value_after : (q name v : List ℕ) (values : List (List ℕ × List ℕ)) →
-    value_of q (with_value name v values) ≡ update bytes_eq (λ k. value_of k values) name (Some v) q
-value_after q name v [] = ap (λ b. cond b (Some v) None) (nat_list_eq_equiv.symm q name)
-value_after q name v (entry ∷ more) =
-    valued_at (slice_cmp nat_cmp name entry.0) q name v entry more refl (value_after q name v more)
-
 values_after : (name v : List ℕ) (values : List (List ℕ × List ℕ)) →
     ◌≡◌ {A = List ℕ → Option (List ℕ)} (λ q. value_of q (with_value name v values))
     (update bytes_eq (λ k. value_of k values) name (Some v))
-values_after name v values = λ i q. value_after q name v values i
+values_after name v values = λ i q. found-named q name v values i
 
 -- ---- the call
 

@@ -26,7 +26,6 @@ IsFilledRequest plan (request.Mknod parent name mode rdev umask ext) = BringsNon
 IsFilledRequest plan (request.Symlink target parent name ext) = BringsNone ext
 IsFilledRequest plan (request.SetXattr inode name value flags extra) = LeavesCapabilities plan
 IsFilledRequest plan (request.ListXattr inode size) = ⊥
-IsFilledRequest plan (request.RemoveXattr inode name) = ⊥
 IsFilledRequest plan (request.ReadDir inode handle size offset) = ⊥
 IsFilledRequest plan asked = Unit {0}
 

@@ -11,15 +11,17 @@ use Rattle.pt_rules.specs.State.{State}
 use Rattle.pt_node.specs.declared.node.Node.{Node}
 use Rattle.pt_node.specs.declared.slots.OpenFile.{OpenFile}
 
--- the names of a directory stand in byte order, each once
-abbrev pub AreOrdered : List (List ℕ × ℕ) → Type 0
+-- the names of a directory, or of extended attributes, stand in byte order, each once
+abbrev pub AreOrdered : {A : Type 0} → List (List ℕ × A) → Type 0
 AreOrdered names = IsStrictlySortedBy (slice_cmp nat_cmp) (keys_of names)
 
--- the object's serial is the number of its making, its permissions have no bits of a kind, and its names are in order
+-- The object's serial is the number of its making, its permissions have no bits of a kind, and its names and those of its
+-- extended attributes are in order.
 pub record IsMade (place : ℕ) (node : Node) : Type 0 where
   pub serial : node.serial ≡ place + 1
   pub permissions : node.permissions < 4096
   pub ordered : AreOrdered (names_in node.content)
+  pub attributed : AreOrdered node.xattrs
 
 -- living objects of one device with one inode number are one
 abbrev pub AreApart : State → Type 0

@@ -192,7 +192,7 @@ module _ (state : State) (holds : Counts) (tables : ℕ → List Slot) (from to 
 pub kept_open_made : (state : State) (holds : Counts) (tables : ℕ →
     List Slot) (kept : IsKept state holds tables) (dir : ℕ) (name : List ℕ) (node parent : Node)
     (into : is_directory_at state.nodes dir ≡ true) (free : name_at state.nodes dir name
-    ≡ None) (empty : names_in node.content ≡ [])
+    ≡ None) (empty : names_in node.content ≡ []) (bare : node.xattrs ≡ [])
     (serial : node.serial
     ≡ length state.nodes + 1) (small : node.permissions < 4096) (at_dir : slice_get state.nodes dir ≡ Some parent)
     (number : node.ids.ino
@@ -204,13 +204,13 @@ pub kept_open_made : (state : State) (holds : Counts) (tables : ℕ →
       names = holds.names ++ 1 ∷ [];
       directories = holds.directories ++ 0 ∷ [];
     }) (given node.ids.dev (having (length state.nodes)) tables)
-kept_open_made state holds tables kept dir name node parent into free empty serial small at_dir number few seat flags
+kept_open_made state holds tables kept dir name node parent into free empty bare serial small at_dir number few seat flags
     file =
-    let made = kept_made state holds tables kept dir name node parent into free empty serial small at_dir number few
+    let made = kept_made state holds tables kept dir name node parent into free empty bare serial small at_dir number few
     (holds.directories ++ 0 ∷ [])
-    (nested_file state holds tables kept dir name node parent into free empty serial small at_dir number few file) in
-    let there = new_there state holds tables kept dir name node parent into free empty serial small at_dir number few in
-    let once = new_held state holds tables kept dir name node parent into free empty serial small at_dir number few in
+    (nested_file state holds tables kept dir name node parent into free empty bare serial small at_dir number few file) in
+    let there = new_there state holds tables kept dir name node parent into free empty bare serial small at_dir number few in
+    let once = new_held state holds tables kept dir name node parent into free empty bare serial small at_dir number few in
     let some : 0 < held_by (with_made state dir name node) (length state.nodes) = omega (arith, once) in
     let lives = held_lives (with_made state dir name node) (length state.nodes) made.sound some in
     let last = ap (slice_get (holds.holds ++ 1 ∷ [])) (sym kept.held.long) ∙ get-push_here holds.holds 1 in

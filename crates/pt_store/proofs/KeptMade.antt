@@ -38,7 +38,7 @@ use Rattle.pt_store.proofs.Weighing.{weighed, weighed-apart, weighed-gained, wei
 module _ (state : State) (holds : Counts) (tables : ℕ → List Slot) (kept : IsKept state holds tables) (dir : ℕ)
     (name : List ℕ) (node parent : Node)
     (into : is_directory_at state.nodes dir ≡ true) (free : name_at state.nodes dir name
-    ≡ None) (empty : names_in node.content ≡ [])
+    ≡ None) (empty : names_in node.content ≡ []) (bare : node.xattrs ≡ [])
     (serial : node.serial
     ≡ length state.nodes + 1) (small : node.permissions < 4096) (at_dir : slice_get state.nodes dir ≡ Some parent)
     (number : node.ids.ino
@@ -47,10 +47,10 @@ module _ (state : State) (holds : Counts) (tables : ℕ → List Slot) (kept : I
   least = subst (IsLeastFree state node.ids.dev) (sym number) (next_least state holds tables kept node.ids.dev)
 
   sound : IsSound (with_made state dir name node)
-  sound = sound_made state dir name node kept.sound into empty serial small least few
+  sound = sound_made state dir name node kept.sound into empty bare serial small least few
 
   long_made : length (with_made state dir name node).nodes ≡ length state.nodes + 1
-  long_made = length_made state dir name node kept.sound into empty serial small least
+  long_made = length_made state dir name node kept.sound into empty bare serial small least
 
   weighed_made : (w : ℕ → ℕ → ℕ) →
       weighed w (with_made state dir name node).nodes ≡ weighed w state.nodes + w dir (length state.nodes)
@@ -103,7 +103,7 @@ module _ (state : State) (holds : Counts) (tables : ℕ → List Slot) (kept : I
       (file : OpenFile) × (open_at table that.ids.ino ≡ Some file) × (file.object ≡ o)
   unfolding table
   has_made o that there of some =
-      elim (at_place state dir name node kept.sound into empty serial small least o that there) [
+      elim (at_place state dir name node kept.sound into empty bare serial small least o that there) [
         | inl new ↦ (
           having (length state.nodes),
           ap (open_at table) (ap (λ n. n.ids.ino) new.1 ∙ number)
@@ -133,7 +133,7 @@ module _ (state : State) (holds : Counts) (tables : ℕ → List Slot) (kept : I
       let within = slice_get_within state.nodes place that there in
       let longer = long_made in
       let now = get_there (with_made state dir name node).nodes place (omega arith) in
-      elim (at_place state dir name node kept.sound into empty serial small least place now.0 now.1) [
+      elim (at_place state dir name node kept.sound into empty bare serial small least place now.0 now.1) [
         | inl new ↦ absurd (let end = new.0 in omega arith)
         | inr old ↦ (now.0, now.1, old.2 ∙ ap (λ n. n.ids) (same_Some old.0 that (sym old.1 ∙ there)))
       ]
@@ -198,7 +198,7 @@ module _ (state : State) (holds : Counts) (tables : ℕ → List Slot) (kept : I
   numbered_there : (dev : ℕ) → dev ≢ node.ids.dev → AreNumbered (with_made state dir name node) dev (tables dev)
   numbered_there dev apart = record {
     has = λ o that there of some.
-        elim (at_place state dir name node kept.sound into empty serial small least o that there) [
+        elim (at_place state dir name node kept.sound into empty bare serial small least o that there) [
           | inl new ↦ absurd (apart (sym of ∙ ap (λ n. n.ids.dev) new.1))
           | inr old ↦ (let file = (kept.numbered dev).has o old.0 old.1 (sym (ap (λ ids. ids.dev) old.2) ∙ of)
               (subst (λ n. 0 < n) (old_held o (slice_get_within state.nodes o old.0 old.1)) some) in

@@ -28,6 +28,7 @@ use Rattle.pt_node.specs.declared.slots.Slot.{Slot}
 use Rattle.pt_node.specs.declared.slots.Slot.TheVariants.{Open}
 use Rattle.pt_rules.specs.Laws.Changed.{AreAlike, alike_changed}
 use Rattle.pt_rules.specs.Laws.EditShapes.{alike_entered, entered}
+use Rattle.pt_rules.specs.Laws.NameTable.{ordered-named}
 use Rattle.pt_rules.specs.Laws.NamesLed.{alike_linked}
 use Rattle.pt_node.specs.Laws.Updates.{get-push_cases, put_end}
 use Rattle.pt_store.proofs.Counting.{once_more}
@@ -113,7 +114,14 @@ module _ (state : State) (holds : Counts) (tables : ℕ → List Slot) (started 
       started_alike (with_xattr state name bytes object) holds
       (kept_changed state holds tables started.kept object (λ node.
       record node { xattrs = with_value name bytes node.xattrs })
-      (λ node. record { ids = refl; serial = refl; object = refl; names = refl; permissions = λ small. small }))
+      (λ node. record {
+        ids = refl;
+        serial = refl;
+        object = refl;
+        names = refl;
+        permissions = λ small. small;
+        attributed = λ ordered. ordered-named name bytes node.xattrs ordered;
+      }))
       started.begun refl
       (alike_changed object (λ node. record node { xattrs = with_value name bytes node.xattrs }) state.nodes
       (λ node. record {
@@ -122,6 +130,7 @@ module _ (state : State) (holds : Counts) (tables : ℕ → List Slot) (started 
         kind = refl;
         permissions = λ small. small;
         ordered = λ ordered. ordered;
+        attributed = λ ordered. ordered-named name bytes node.xattrs ordered;
       }))
 
 -- ---- one object more
@@ -192,7 +201,7 @@ module _ (state : State) (holds : Counts) (tables : ℕ → List Slot) (started 
   ]
 
   pub started_made : (parent : Node) → is_directory_at state.nodes dir ≡ true → name_at state.nodes dir name ≡ None →
-      names_in node.content ≡ [] →
+      names_in node.content ≡ [] → node.xattrs ≡ [] →
       node.serial ≡ length state.nodes + 1 → node.permissions < 4096 → slice_get state.nodes dir ≡ Some parent →
       node.ids.ino ≡ least_free (tables node.ids.dev) → length (with_made state dir name node).nodes < 2 ^ 63 →
       has_device node.ids.dev state.mounts ≡ true →
@@ -203,10 +212,10 @@ module _ (state : State) (holds : Counts) (tables : ℕ → List Slot) (started 
         names = holds.names ++ 1 ∷ [];
         directories = slice_set (holds.directories ++ 0 ∷ []) dir value;
       }) (given node.ids.dev (having (length state.nodes)) tables)
-  started_made parent into free empty serial small at_dir number few on_device value is = record {
-    kept = kept_made state holds tables started.kept dir name node parent into free empty serial small at_dir number few
+  started_made parent into free empty bare serial small at_dir number few on_device value is = record {
+    kept = kept_made state holds tables started.kept dir name node parent into free empty bare serial small at_dir number few
         (slice_set (holds.directories ++ 0 ∷ []) dir value)
-        (nested_made state holds tables started.kept dir name node parent into free empty serial small at_dir number few
+        (nested_made state holds tables started.kept dir name node parent into free empty bare serial small at_dir number few
         value is);
     begun = started.begun;
     dense = dense_made;

@@ -56,7 +56,8 @@ module _ (id dev : ℕ) (path : List ℕ) (handles : Bool) where
         record {
           serial = ap (λ (n : Node). n.serial) at.1 ∙ (let p = at.0 in let e : 1 ≡ place + 1 = omega arith in e);
           permissions = subst (λ (n : Node). n.permissions < 4096) (sym at.1) (omega arith);
-          ordered = subst (λ (n : Node). AreOrdered (names_in n.content)) (sym at.1) no_names;
+          ordered = subst (λ (n : Node). AreOrdered (names_in n.content)) (sym at.1) (no_names ℕ);
+          attributed = subst (λ (n : Node). AreOrdered n.xattrs) (sym at.1) (no_names (List ℕ));
         };
     named = none_named;
     opened = none_opened;

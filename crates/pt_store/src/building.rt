@@ -112,6 +112,7 @@ impl Store {
         requires into { is_directory_at self.old.nodes.items dir ≡ true }
         requires free { name_at self.old.nodes.items dir name.now ≡ None }
         requires empty { names_in node.content ≡ [] }
+        requires bare { node.xattrs ≡ [] }
         requires small { node.permissions < 4096 }
         requires serial { node.serial ≡ length self.old.nodes.items + 1 }
         requires mounted { has_device node.ids.dev self.old.mounts ≡ true }

@@ -85,9 +85,17 @@ pub record Stays (before after : Node) : Type 0 where
   pub kind : kind_number after.content ≡ kind_number before.content
   pub permissions : before.permissions < 4096 → after.permissions < 4096
   pub ordered : AreOrdered (names_in before.content) → AreOrdered (names_in after.content)
+  pub attributed : AreOrdered before.xattrs → AreOrdered after.xattrs
 
 pub stays_itself : (node : Node) → Stays node node
-stays_itself node = record { ids = refl; serial = refl; kind = refl; permissions = λ small. small; ordered = λ o. o }
+stays_itself node = record {
+  ids = refl;
+  serial = refl;
+  kind = refl;
+  permissions = λ small. small;
+  ordered = λ o. o;
+  attributed = λ o. o;
+}
 
 pub record AreAlike (before after : List Node) : Type 0 where
   pub long : length after ≡ length before
@@ -111,6 +119,7 @@ alike_on first next last one two = record {
           kind = later.2.kind ∙ before.2.kind;
           permissions = λ small. later.2.permissions (before.2.permissions small);
           ordered = λ o. later.2.ordered (before.2.ordered o);
+          attributed = λ o. later.2.attributed (before.2.attributed o);
         },
       );
 }

@@ -46,6 +46,7 @@ stays_gained now name object node =
       kind = kind_gained name object node.content;
       permissions = λ small. small;
       ordered = ordered_gained name object node.content;
+      attributed = λ ordered. ordered;
     }
 
 pub stays_lost : (now : Time) (name : List ℕ) (node : Node) →
@@ -57,15 +58,23 @@ stays_lost now name node =
       kind = kind_lost name node.content;
       permissions = λ small. small;
       ordered = ordered_lost name node.content;
+      attributed = λ ordered. ordered;
     }
 
 pub stays_restamped : (now : Time) (node : Node) → Stays node (restamped now node)
 stays_restamped now node =
-    record { ids = refl; serial = refl; kind = refl; permissions = λ small. small; ordered = λ ordered. ordered }
+    record {
+      ids = refl;
+      serial = refl;
+      kind = refl;
+      permissions = λ small. small;
+      ordered = λ ordered. ordered;
+      attributed = λ ordered. ordered;
+    }
 
-pub no_names : AreOrdered []
+pub no_names : (A : Type 0) → AreOrdered {A = A} []
 unfolding IsStrictlySortedBy
-no_names = tt
+no_names A = tt
 
 pub names_rewritten_in : (bytes : List ℕ) (content : Content) → names_in (with_bytes bytes content) ≡ names_in content
 names_rewritten_in bytes (Regular old) = refl
@@ -84,6 +93,7 @@ stays_rewritten now bytes node =
       kind = kind_rewritten_in bytes node.content;
       permissions = λ small. small;
       ordered = λ ordered. subst AreOrdered (sym (names_rewritten_in bytes node.content)) ordered;
+      attributed = λ ordered. ordered;
     }
 
 same_kind : (node : Node) (content : Content) → kind_number content ≡ kind_number node.content →

@@ -78,7 +78,7 @@ sound_rewritten state object bytes sound =
 
 module _ (state : State) (dir : ℕ) (name : List ℕ) (node : Node) (sound : IsSound state)
     (into : is_directory_at state.nodes dir ≡ true)
-    (empty : names_in node.content ≡ []) (serial : node.serial
+    (empty : names_in node.content ≡ []) (bare : node.xattrs ≡ []) (serial : node.serial
     ≡ length state.nodes + 1) (small : node.permissions < 4096)
     (least : IsLeastFree state node.ids.dev node.ids.ino) where
   pub length_made : length (with_made state dir name node).nodes ≡ length state.nodes + 1
@@ -104,7 +104,8 @@ module _ (state : State) (dir : ℕ) (name : List ℕ) (node : Node) (sound : Is
     | inl new ↦ (let good : IsMade place node = record {
       serial = (let end = new.0 in omega arith);
       permissions = small;
-      ordered = subst AreOrdered (sym empty) no_names;
+      ordered = subst AreOrdered (sym empty) (no_names ℕ);
+      attributed = subst AreOrdered (sym bare) (no_names (List ℕ));
     } in
         subst (IsMade place) (sym new.1) good)
     | inr old ↦ old.3
@@ -194,7 +195,7 @@ pub sound_makes : (state : State) (numbers : ℕ → ℕ) (after : State) → Is
     length after.nodes < 2 ^ 63 → Makes state numbers after → IsSound after
 sound_makes state numbers after sound least few does =
     subst IsSound (sym does.leaves)
-    (sound_made state does.dir does.name does.node sound does.into does.empty does.serial does.small
+    (sound_made state does.dir does.name does.node sound does.into does.empty does.bare does.serial does.small
     (subst (IsLeastFree state does.node.ids.dev) (sym does.number) (least does.node.ids.dev))
     (subst (λ (s : State). length s.nodes < 2 ^ 63) does.leaves few))
 

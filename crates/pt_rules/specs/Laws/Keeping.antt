@@ -7,6 +7,7 @@ use Rattle.pt_node.specs.Node.{object_of, names_in, kind_number}
 use Rattle.pt_node.specs.Permission.{fsetid}
 use Rattle.pt_node.specs.Opening.{emptied, after_opening, permissions_after, without_set_user, without_set_group}
 use Rattle.pt_node.specs.Reading.{after_reading}
+use Rattle.pt_rules.specs.Sound.{AreOrdered}
 use Rattle.pt_node.specs.declared.node.Node.{Node}
 use Rattle.pt_node.specs.declared.node.Content.{Content}
 use Rattle.pt_node.specs.declared.node.Content.TheVariants.{Directory, Regular, Link, Special}
@@ -17,9 +18,17 @@ pub record KeepsNode (before after : Node) : Type 0 where
   pub object : object_of after ≡ object_of before
   pub names : names_in after.content ≡ names_in before.content
   pub permissions : before.permissions < 4096 → after.permissions < 4096
+  pub attributed : AreOrdered before.xattrs → AreOrdered after.xattrs
 
 pub keeps_itself : (node : Node) → KeepsNode node node
-keeps_itself node = record { ids = refl; serial = refl; object = refl; names = refl; permissions = λ small. small }
+keeps_itself node = record {
+  ids = refl;
+  serial = refl;
+  object = refl;
+  names = refl;
+  permissions = λ small. small;
+  attributed = λ ordered. ordered;
+}
 
 le-less_where : (b : Bool) (m n : ℕ) → cond b (m - n) m ≤ m
 le-less_where b m n = elim b as (λ v. cond v (m - n) m ≤ m) [ true ↦ omega arith | false ↦ omega arith ]
@@ -47,6 +56,7 @@ keeps_emptied seat now node (Regular bytes) held = record {
   object = ap (λ (kind : ℕ). record (object_of node) { kind = kind }) (sym (ap kind_number held));
   names = sym (ap names_in held);
   permissions = λ small. let less = permissions-le seat node.permissions in omega arith;
+  attributed = λ ordered. ordered;
 }
 
 keeps_where : (b : Bool) (before after : Node) → KeepsNode before after → KeepsNode before (cond b after before)
@@ -61,4 +71,11 @@ keeps_opening seat now flags node =
     (keeps_emptied seat now node node.content refl)
 
 pub keeps_reading : (now : Time) (node : Node) → KeepsNode node (after_reading now node)
-keeps_reading now node = record { ids = refl; serial = refl; object = refl; names = refl; permissions = λ small. small }
+keeps_reading now node = record {
+  ids = refl;
+  serial = refl;
+  object = refl;
+  names = refl;
+  permissions = λ small. small;
+  attributed = λ ordered. ordered;
+}

@@ -37,6 +37,7 @@ use Rattle.pt_rules.specs.Laws.LinkFair.{fair_make_link}
 use Rattle.pt_rules.specs.Laws.OpenAtFair.{fair_open_at}
 use Rattle.pt_rules.specs.Laws.RenameFair.{fair_rename}
 use Rattle.pt_rules.specs.Laws.MoveFair.{fair_list, fair_seek}
+use Rattle.pt_rules.specs.Laws.NameTable.{ordered-named, ordered-unnamed}
 use Rattle.pt_rules.specs.Laws.PathOnly.{path_only_bad}
 use Rattle.pt_rules.specs.Laws.SeatLaws.{other_seat, own_seat}
 use Rattle.pt_rules.specs.Laws.WellFormed.{well_formed}
@@ -95,6 +96,7 @@ fair_answer state numbers seat (call.ChMod fd through mode) sound least =
           object = refl;
           names = refl;
           permissions = λ small. omega arith;
+          attributed = λ ordered. ordered;
         },
         inl on,
       );
@@ -111,6 +113,7 @@ fair_answer state numbers seat (call.ChOwn fd uid gid) sound least =
           object = refl;
           names = refl;
           permissions = λ small. small;
+          attributed = λ ordered. ordered;
         },
         inl on,
       );
@@ -127,6 +130,7 @@ fair_answer state numbers seat (call.SetTimes fd through atime mtime) sound leas
           object = refl;
           names = refl;
           permissions = λ small. small;
+          attributed = λ ordered. ordered;
         },
         inl on,
       );
@@ -143,6 +147,7 @@ fair_answer state numbers seat (call.SetXattr fd through name value flags) sound
           object = refl;
           names = refl;
           permissions = λ small. small;
+          attributed = λ ordered. ordered-named name value node.xattrs ordered;
         },
         inl on,
       );
@@ -159,6 +164,7 @@ fair_answer state numbers seat (call.RemoveXattr fd through name) sound least =
           object = refl;
           names = refl;
           permissions = λ small. small;
+          attributed = λ ordered. ordered-unnamed name node.xattrs ordered;
         },
         inl on,
       );

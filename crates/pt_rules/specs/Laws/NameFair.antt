@@ -156,6 +156,7 @@ fair_new state numbers seat asked fd name permissions rdev content file dir soun
       free = there_at state file.object dir name there ∙ free;
       at_dir = there;
       empty = empty;
+      bare = refl;
       serial = refl;
       small = small;
       number = refl;

@@ -175,6 +175,7 @@ module _ (state : State) (numbers : ℕ → ℕ) (seat : HostSeat) (fd : Fd) (na
     free = there_at state file.object parent name there ∙ free;
     at_dir = there;
     empty = refl;
+    bare = refl;
     serial = refl;
     small = small_masked seat mode;
     number = refl;

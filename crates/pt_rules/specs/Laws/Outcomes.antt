@@ -58,6 +58,7 @@ pub record Makes (state : State) (numbers : ℕ → ℕ) (after : State) : Type 
   pub free : name_at state.nodes dir name ≡ None
   pub at_dir : slice_get state.nodes dir ≡ Some parent
   pub empty : names_in node.content ≡ []
+  pub bare : node.xattrs ≡ []
   pub serial : node.serial ≡ length state.nodes + 1
   pub small : node.permissions < 4096
   pub number : node.ids.ino ≡ numbers node.ids.dev
@@ -305,6 +306,7 @@ made_in state numbers permissions uid gid rdev content place small at free empty
         free = leads_from state.nodes place None at.0 free;
         at_dir = at.0;
         empty = empty;
+        bare = refl;
         serial = refl;
         small = small;
         number = refl;

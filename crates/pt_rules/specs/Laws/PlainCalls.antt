@@ -45,6 +45,7 @@ keeps_rewritten now bytes node = record {
   object = ap (λ (kind : ℕ). record (object_of node) { kind = kind }) (kind_rewritten_in bytes node.content);
   names = names_rewritten_in bytes node.content;
   permissions = λ small. small;
+  attributed = λ ordered. ordered;
 }
 
 pub keeps_refilled : (seat : HostSeat) (now : Time) (bytes : List ℕ) (node : Node) →
@@ -55,6 +56,7 @@ keeps_refilled seat now bytes node = record {
   object = ap (λ (kind : ℕ). record (object_of node) { kind = kind }) (kind_rewritten_in bytes node.content);
   names = names_rewritten_in bytes node.content;
   permissions = λ small. let less = permissions-le seat node.permissions in omega arith;
+  attributed = λ ordered. ordered;
 }
 
 -- the call may do this to the object: it changes no more than the access time, or what the call may change

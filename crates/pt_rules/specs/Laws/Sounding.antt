@@ -21,6 +21,7 @@ stays_kept before after keeps = record {
   kind = ap (λ (object : Object). object.kind) keeps.object;
   permissions = keeps.permissions;
   ordered = λ ordered. subst AreOrdered (sym keeps.names) ordered;
+  attributed = keeps.attributed;
 }
 
 pub made_stays : (place : ℕ) (before after : Node) → Stays before after → IsMade place before → IsMade place after
@@ -28,6 +29,7 @@ made_stays place before after stays made = record {
   serial = stays.serial ∙ made.serial;
   permissions = stays.permissions made.permissions;
   ordered = stays.ordered made.ordered;
+  attributed = stays.attributed made.attributed;
 }
 
 -- what a name leads to lived, and is there

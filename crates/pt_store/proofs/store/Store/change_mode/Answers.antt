@@ -28,4 +28,11 @@ returns-clause-kept c =
     kept_as (with_node state object (restamped (time_of state) (moded c.args.mode node))) _ holds _ tables _
     (ap (nodes_in state) (ap (slice_set state.nodes object) after)) refl refl
     (kept_node state holds tables c.requires object node (restamped (time_of state) (moded c.args.mode node)) there
-    (record { ids = refl; serial = refl; object = refl; names = refl; permissions = λ small. omega arith }))
+    (record {
+      ids = refl;
+      serial = refl;
+      object = refl;
+      names = refl;
+      permissions = λ small. omega arith;
+      attributed = λ ordered. ordered;
+    }))

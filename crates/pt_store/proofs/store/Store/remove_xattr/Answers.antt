@@ -8,6 +8,7 @@ use Rattle.pt_node.specs.declared.node.Node.{Node}
 use Rattle.pt_node.specs.Changes.{unvalued}
 use Rattle.pt_rules.specs.Calls.{with_node}
 use Rattle.pt_node.specs.Entries.{restamped}
+use Rattle.pt_rules.specs.Laws.NameTable.{ordered-unnamed}
 use Rattle.pt_store.proofs.KeptCalls.{kept_node}
 use Rattle.pt_store.proofs.KeptStore.{kept_as, nodes_in}
 use Rattle.pt_store.proofs.Found.{open_there}
@@ -29,4 +30,11 @@ returns-clause-kept c =
     (ap (nodes_in state) (ap (slice_set state.nodes object) after)) refl refl
     (kept_node state holds tables c.requires object node
     (restamped (time_of state) (unvalued c.args.name.now node)) there
-    (record { ids = refl; serial = refl; object = refl; names = refl; permissions = λ small. small }))
+    (record {
+      ids = refl;
+      serial = refl;
+      object = refl;
+      names = refl;
+      permissions = λ small. small;
+      attributed = λ ordered. ordered-unnamed c.args.name.now node.xattrs ordered;
+    }))

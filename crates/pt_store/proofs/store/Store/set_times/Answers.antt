@@ -30,4 +30,11 @@ returns-clause-kept c =
     (ap (nodes_in state) (ap (slice_set state.nodes object) after)) refl refl
     (kept_node state holds tables c.requires object node
     (restamped (time_of state) (timed (time_of state) c.args.atime c.args.mtime node)) there
-    (record { ids = refl; serial = refl; object = refl; names = refl; permissions = λ small. small }))
+    (record {
+      ids = refl;
+      serial = refl;
+      object = refl;
+      names = refl;
+      permissions = λ small. small;
+      attributed = λ ordered. ordered;
+    }))
