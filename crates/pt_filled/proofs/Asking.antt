@@ -38,6 +38,7 @@ use Rattle.pt_filled.proofs.Creating.{fills_create}
 use Rattle.pt_filled.proofs.Entries.{fills_link, fills_lookup}
 use Rattle.pt_filled.proofs.Filling.{Between, filled, IsFilledBy, objects_of, stay}
 use Rattle.pt_filled.proofs.Hosting.{Full, Thread}
+use Rattle.pt_filled.proofs.Listing.{fills_listxattr}
 use Rattle.pt_filled.proofs.Made.{fills_mkdir, fills_mknod, fills_symlink}
 use Rattle.pt_filled.proofs.Naming.{fills_rename, fills_rmdir, fills_unlink}
 use Rattle.pt_filled.proofs.Openings.{fills_open, fills_open_dir}
@@ -150,9 +151,11 @@ module _ (plan : Plan) (who : Context) (agreed : Negotiated) (j : Thread) (w : F
   fills_in_session (request.SetAttr inode handle valid attr) f r a v c =
       fills_setattr plan who agreed inode handle valid attr j w last w' state after g n f r c
   fills_in_session (request.SetXattr inode name value flags extra) f r a v c =
-      fills_setxattr plan who j w last w' state after g n f inode name value flags extra c
+      fills_setxattr plan who j w last w' state after g n inode name value flags extra c
   fills_in_session (request.GetXattr inode name size) f r a v c =
       fills_getxattr plan who j w last w' state after g n inode name size c
+  fills_in_session (request.ListXattr inode size) f r a v c =
+      fills_listxattr plan who j w last w' state after g n inode size c
   fills_in_session (request.RemoveXattr inode name) f r a v c =
       fills_removexattr plan who j w last w' state after g n inode name c
   fills_in_session (request.Unlink parent name) f r a v c =
@@ -170,7 +173,7 @@ module _ (plan : Plan) (who : Context) (agreed : Negotiated) (j : Thread) (w : F
   fills_in_session (request.Read inode handle size offset) f r a v c =
       fills_read plan who j w last w' state after g n inode handle size offset c
   fills_in_session (request.Write inode handle offset bytes delayed kill flags) f r a v c =
-      fills_write plan who agreed j w last w' state after g n inode handle offset bytes delayed kill flags f r c
+      fills_write plan who agreed j w last w' state after g n inode handle offset bytes delayed kill flags r c
   fills_in_session (request.Flush inode handle) f r a v c = fills_flush plan who j w last w' state after g inode
       handle c
   fills_in_session (request.Fsync inode handle datasync) f r a v c =

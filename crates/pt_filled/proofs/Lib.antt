@@ -6,6 +6,7 @@ pub mod News
 pub mod Parts
 pub mod Filling
 pub mod Finding
+pub mod Clearing
 pub mod Reading
 pub mod Seeking
 pub mod Writing
@@ -31,4 +32,5 @@ pub mod Editing
 pub mod Valued
 pub mod Valuing
 pub mod Removing
+pub mod Listing
 pub mod ExampleRefused

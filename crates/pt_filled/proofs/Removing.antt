@@ -1,7 +1,5 @@
 -- Proof. `removexattr`, and what a name has once it is taken away.
 use Rattle.std.specs.List.{list_any}
-use Rattle.std.specs.Map.{update}
-use Rattle.std.specs.Str.{bytes_eq}
 use Rattle.std.proofs.Common.{[], ◌∷◌, ◌≡◌, ◌≢◌, ℕ, List, Bool, true, false, Option, Some, None, refl, sym, ap, subst}
 use Rattle.std.proofs.Common.{◌∙◌, Result, Ok, Err, ◌==◌, is_none, is_some}
 use Rattle.pt_host.specs.Contents.{ObjectContents}
@@ -31,35 +29,29 @@ use Rattle.pt_xattr.specs.Parts.{allowed, nul_free, with_xattr, xattr_file}
 use Rattle.pt_xattr.specs.Requests.{removexattr}
 use Rattle.pt_xattr.specs.declared.parts.XattrFile.{XattrFile}
 use Rattle.pt_law.specs.World.{fd_of, made}
-use Rattle.pt_node.specs.Attributes.{value_of, without_value}
+use Rattle.pt_node.specs.Attributes.{value_of}
 use Rattle.pt_node.specs.Opening.{first_refusal}
 use Rattle.pt_node.specs.declared.node.Node.{Node}
 use Rattle.pt_node.specs.declared.slots.OpenFile.{OpenFile}
 use Rattle.pt_rules.specs.AttributeCalls.{does_not_serve, remove_xattr_row}
 use Rattle.pt_rules.specs.Rows.{Row}
-use Rattle.pt_rules.specs.Sound.{AreOrdered, IsSound}
+use Rattle.pt_rules.specs.Sound.{IsSound}
 use Rattle.pt_rules.specs.State.{contents_where, tree_of}
-use Rattle.pt_rules.specs.Laws.NameTable.{found-unnamed}
 use Rattle.pt_plain.specs.Plain.{PlainTree}
 use Rattle.pt_plain.proofs.Stilling.{IsStill}
 use Rattle.pt_filled.specs.Contents.{valued, with_changed}
 use Rattle.pt_filled.specs.Fills.{Fills}
 use Rattle.pt_filled.specs.Told.{name_held}
+use Rattle.pt_filled.proofs.Clearing.{values_without, within_at}
 use Rattle.pt_filled.proofs.Effects.{objects_still, ok_has, rowed, row_there, same_parts}
 use Rattle.pt_filled.proofs.Filling.{Between, become, filled, IsFilledBy, refused_fills}
 use Rattle.pt_filled.proofs.Finding.{Found, same_at, walk_found}
 use Rattle.pt_filled.proofs.Hosting.{Alters, alters_on, alters_then, contents_at, Full, Steps, Thread}
 use Rattle.pt_filled.proofs.Parts.{At, comes_at, idles_calm, IsRefused, refused_from, refused_with, walk_begin, walk_do}
 use Rattle.pt_filled.proofs.Parts.{walk_if, walk_unless}
-use Rattle.pt_filled.proofs.Setting.{within_at}
 use Rattle.pt_filled.proofs.Tables.{alters_row}
 use Rattle.pt_filled.proofs.Threading.{Comes, Makes}
 use Rattle.pt_filled.proofs.Valued.{IsHeldAs, walk_name, walk_xattr_file}
-
-values_without : (name : List ℕ) (values : List (List ℕ × List ℕ)) → AreOrdered values →
-    ◌≡◌ {A = List ℕ → Option (List ℕ)} (λ q. value_of q (without_value name values))
-    (update bytes_eq (λ k. value_of k values) name None)
-values_without name values ordered = λ i q. found-unnamed q name values ordered i
 
 was_there : (there : Option (List ℕ)) (first : Bool) (x y : Errno) →
     first_refusal ((first, x) ∷ (is_none there, y) ∷ []) ≡ None → is_some there ≡ true

@@ -52,6 +52,7 @@ use Rattle.pt_filled.proofs.Parts.{walk_reopen, walk_unless, calm_goes, quiet_ma
 use Rattle.pt_filled.proofs.Threading.{Makes, comes_law}
 use Rattle.pt_filled.proofs.Filling.{open_within}
 use Rattle.pt_filled.proofs.Writing.{keeps_by, walk_uncapped, walk_without}
+use Rattle.pt_filled.proofs.Clearing.{alters_idle, idle_at, within_at}
 use Rattle.pt_filled.proofs.Effects.{was_moded, was_owned, was_sized, was_timed}
 
 pub still_mode : (fd : Fd) (through : Bool) (mode : ℕ) (told : ActReply) → IsStill (Calls (call.ChMod fd through
@@ -75,21 +76,6 @@ still_times : (fd : Fd) (through : Bool) (atime mtime : TimeSet) (told : ActRepl
 still_times fd through atime mtime (Host told) = tt
 still_times fd through atime mtime (Event told) = tt
 still_times fd through atime mtime NoCopy = tt
-
--- an object that is changed to what it was
-idle_at : (object : ℕ) (are : ℕ → ObjectContents) (other : ℕ) → with_changed object (λ was. was) are other ≡ are other
-idle_at object are other = ⊎_elim
-    (λ (q : other ≡ object).
-    ap (with_changed object (λ was. was) are) q ∙ set_at_same are object (are object) ∙ ap are (sym q))
-    (λ (q : other ≢ object). set_at_other are object (are object) other q) (cases_eq other object)
-
-pub alters_idle : (w x : Full) (are : ℕ → ObjectContents) (object : ℕ) → Alters w x are →
-    Alters w x (with_changed object (λ was. was) are)
-alters_idle w x are object a = record {
-  objects = a.objects;
-  same = λ other l. subst (λ (c : ObjectContents). IsSame c (contents_at x other)) (sym (idle_at object are other))
-      (a.same other l);
-}
 
 keeps_idle : (w x : Full) (object : ℕ) → Alters w x (with_changed object (λ was. was) (contents_at w)) → Keeps w x
 keeps_idle w x object a = record {
@@ -115,12 +101,6 @@ pub record Reaches (w x y : Full) (are : ℕ → ObjectContents) : Type 0 where
 
 reaches_none : (w x : Full) (are : ℕ → ObjectContents) → Alters w x are → Reaches w x x are
 reaches_none w x are a = record { tree = refl; quiet = quiet_none (world_of x); alters = a }
-
--- the object of a descriptor was there as the job began
-pub within_at : (w x : Full) (are : ℕ → ObjectContents) (fd : Fd) (object : ℕ) → Alters w x are → IsSound x.state →
-    IsOpenOn (world_of x).tree fd object → object < length (objects_at w)
-within_at w x are fd object a s o =
-    subst (λ (z : List Object). object < length z) a.objects (open_within x fd object s o)
 
 abbrev pub moded_if : Bool → ℕ → ObjectContents → ObjectContents
 moded_if b mode was = if b then record was { mode = mode % 4096 } else was

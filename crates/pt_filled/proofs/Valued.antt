@@ -191,7 +191,7 @@ was_valued j w on fd through name size told object s o =
       r.ok.tells ∙ ap (λ (x : Option (List ℕ)). sized size (unwrap_or x [])) p.1,
     )
 
-sized_count : (size : ℕ) (bytes : List ℕ) (count : ℕ) → value.Count count ≡ sized size bytes →
+pub sized_count : (size : ℕ) (bytes : List ℕ) (count : ℕ) → value.Count count ≡ sized size bytes →
     (size == 0) ≡ true → count ≡ length bytes
 sized_count size bytes count e z = same (e ∙ ap (λ (b : Bool). cond b (value.Count (length bytes)) (value.Bytes
     bytes)) z)
@@ -199,7 +199,7 @@ sized_count size bytes count e z = same (e ∙ ap (λ (b : Bool). cond b (value.
     same : {one other : ℕ} → value.Count one ≡ value.Count other → one ≡ other
     same e = cc
 
-sized_bytes : (size : ℕ) (bytes told : List ℕ) → value.Bytes told ≡ sized size bytes → (size == 0) ≡ false →
+pub sized_bytes : (size : ℕ) (bytes told : List ℕ) → value.Bytes told ≡ sized size bytes → (size == 0) ≡ false →
     told ≡ bytes
 sized_bytes size bytes told e z =
     same (e ∙ ap (λ (b : Bool). cond b (value.Count (length bytes)) (value.Bytes bytes)) z)

@@ -55,19 +55,19 @@ use Rattle.pt_plain.proofs.Stilling.{IsStill}
 use Rattle.pt_filled.specs.Contents.{IsSame, sgid_taken, uncapped, valued, with_changed}
 use Rattle.pt_filled.specs.Fills.{Fills, IsFit}
 use Rattle.pt_filled.specs.Told.{name_held}
+use Rattle.pt_filled.proofs.Clearing.{alters_idle, alters_twice, walk_clear, within_at}
 use Rattle.pt_filled.proofs.Effects.{was_moded, was_seen, objects_still, ok_has, rowed, row_there, same_parts}
 use Rattle.pt_filled.proofs.Hosting.{Keeps, world_of, Alters, Full, Steps, Thread, alters_on, alters_then}
 use Rattle.pt_filled.proofs.Hosting.{contents_at}
 use Rattle.pt_filled.proofs.Parts.{keeps_on, leaves_keeps, walk_stat, At, IsRefused, comes_at, idles_calm}
 use Rattle.pt_filled.proofs.Parts.{refused_from, refused_with, walk_begin, walk_do, walk_if, walk_unless}
-use Rattle.pt_filled.proofs.Setting.{alters_idle, still_mode, within_at}
+use Rattle.pt_filled.proofs.Setting.{still_mode}
 use Rattle.pt_filled.proofs.Tails.{stat_leaves}
 use Rattle.pt_filled.proofs.Filling.{Between, filled, IsFilledBy, refused_fills, become}
 use Rattle.pt_filled.proofs.Finding.{Found, walk_found}
 use Rattle.pt_filled.proofs.Tables.{alters_row}
 use Rattle.pt_filled.proofs.Threading.{Comes, Makes}
 use Rattle.pt_filled.proofs.Valued.{IsHeldAs, walk_name, walk_xattr_file}
-use Rattle.pt_filled.proofs.Writing.{walk_uncapped}
 
 -- ---- a name after one is given a value
 
@@ -163,31 +163,6 @@ taken_is k p =
     bits ((4096 * k + p) / 1024 % 2 == 1) (p / 1024 % 2 == 1) ((4096 * k + p) % 4096) (p % 4096)
     (ap (λ (n : ℕ). n == 1) (third k p)) (low k p) (below (4096 * k + p))
 
--- one object is changed twice
-changed_twice : (object : ℕ) (one later : ObjectContents → ObjectContents) (are : ℕ → ObjectContents) (other : ℕ) →
-    with_changed object later (with_changed object one are) other
-    ≡ with_changed object (λ was. later (one was)) are other
-changed_twice object one later are other = ⊎_elim
-    (λ (q : other ≡ object). ap (with_changed object later (with_changed object one are)) q
-    ∙ set_at_same (with_changed object one are) object (later (with_changed object one are object))
-    ∙ ap later (set_at_same are object (one (are object)))
-    ∙ sym (ap (with_changed object (λ was. later (one was)) are) q
-    ∙ set_at_same are object (later (one (are object)))))
-    (λ (q : other ≢ object).
-    set_at_other (with_changed object one are) object (later (with_changed object one are object)) other q
-    ∙ set_at_other are object (one (are object)) other q
-    ∙ sym (set_at_other are object (later (one (are object))) other q))
-    (cases_eq other object)
-
-alters_twice : (w x : Full) (object : ℕ) (one later : ObjectContents → ObjectContents) →
-    Alters w x (with_changed object later (with_changed object one (contents_at w))) →
-    Alters w x (with_changed object (λ was. later (one was)) (contents_at w))
-alters_twice w x object one later a = record {
-  objects = a.objects;
-  same = λ other l. subst (λ (c : ObjectContents). IsSame c (contents_at x other))
-      (changed_twice object one later (contents_at w) other) (a.same other l);
-}
-
 -- as the status told the mode, so it is without the bit
 was_taken : (j : Thread) (w e x : Full) (fd : Fd) (through : Bool) (told : Stat) (said : HostValue) (object : ℕ) →
     Steps j w (made (Calls (call.Stat fd)) (Host (host.Ok (value.Stat told)))) e →
@@ -209,31 +184,31 @@ was_taken j w e x fd through told said object s t ow oe same =
     (ap (λ (m : ℕ). record (contents_at e object) { mode = m }) taken) a
 
 -- before the value comes
-record Readied (w e : Full) (object : ℕ) (kills : Bool) (fd : Fd) : Type 0 where
-  alters : Alters w e (with_changed object (sgid_taken kills) (contents_at w))
+record Readied (w e : Full) (are : ℕ → ObjectContents) (object : ℕ) (kills : Bool) (fd : Fd) : Type 0 where
+  alters : Alters w e (with_changed object (sgid_taken kills) are)
   open_on : IsOpenOn (world_of e).tree fd object
 
 walk_killed : {G : Type 0} (j : Thread) (kills : Bool) (file : XattrFile) (next : RequestTree) (w d : Full)
-    (last : Answer) (w' : Full) (object : ℕ) → last ≢ answer.NoMemory → Keeps w d →
-    IsOpenOn (world_of d).tree file.fd object → At j (sgid_killed kills file next) d last w' → (IsRefused w last w' →
-    G) → ((e : Full) → Readied w e object kills file.fd → At j next e last w' → G) → G
-walk_killed j false file next w d last w' object n k o c out goes =
-    goes d (record { alters = alters_idle w d (contents_at w) object k; open_on = o }) c
-walk_killed j true file next w d last w' object n k o c out goes =
-    walk_stat j file.fd _ d last w' n c (λ r. out (refused_from w d last w' k r)) (λ told e m c.
+    (are : ℕ → ObjectContents) (last : Answer) (w' : Full) (object : ℕ) → last ≢ answer.NoMemory → Alters w d are →
+    IsOpenOn (world_of d).tree file.fd object → At j (sgid_killed kills file next) d last w' → (IsRefused d last w' →
+    G) → ((e : Full) → Readied w e are object kills file.fd → At j next e last w' → G) → G
+walk_killed j false file next w d are last w' object n a o c out goes =
+    goes d (record { alters = alters_idle w d are object a; open_on = o }) c
+walk_killed j true file next w d are last w' object n a o c out goes =
+    walk_stat j file.fd _ d last w' n c out (λ told e m c.
     let kept = leaves_keeps j d e (Calls (call.Stat file.fd)) (Host (host.Ok (value.Stat told))) m
     (stat_leaves file.fd (Host (host.Ok (value.Stat told)))) in
     let oe = later d e m.2.goes.made.0.0.trees.changes.5 o in
     walk_do j (call.ChMod file.fd file.through (without_sgid told.mode)) next e last w' n
     (λ said z. still_mode file.fd file.through (without_sgid told.mode) said) c
-    (λ r. out (refused_from w e last w' (keeps_on w d e k kept) r)) (λ said x t c.
-    let within = within_at w d (contents_at w) file.fd object k m.2.made.0.sound o in
-    let whole = keeps_on w d e k kept in
+    (λ r. out (refused_from d e last w' kept r)) (λ said x t c.
+    let within = within_at w d are file.fd object a m.2.made.0.sound o in
     goes x (record {
-      alters = alters_on w e x (contents_at w) object (sgid_taken true) within (λ p q z. ap (λ (c : ObjectContents).
-          record (sgid_taken true c) { atime = q.atime; mtime = q.mtime; ctime = q.ctime }) z) whole
+      alters = alters_on w e x are object (sgid_taken true) within (λ p q z. ap (λ (c : ObjectContents).
+          record (sgid_taken true c) { atime = q.atime; mtime = q.mtime; ctime = q.ctime }) z)
+          (alters_then w d e are a kept)
           (was_taken j d e x file.fd file.through told said object m.2 t.2 o oe
-          (kept.same object (subst (λ (z : List Object). object < length z) (sym k.objects) within)));
+          (kept.same object (subst (λ (z : List Object). object < length z) (sym a.objects) within)));
       open_on = later e x t.2.goes.made.0.0.trees.changes.1 oe;
     }) c))
   where
@@ -246,7 +221,7 @@ xattrs_kept true was = refl
 xattrs_kept false was = refl
 
 module _ (plan : Plan) (who : Context) (j : Thread) (w : Full) (last : Answer) (w' : Full) (state after : PlainTree)
-    (g : Between w w' state after) (n : last ≢ answer.NoMemory) (uncaps : plan.capability ≡ None) where
+    (g : Between w w' state after) (n : last ≢ answer.NoMemory) where
   pub fills_setxattr : (inode : ℕ) (name value : List ℕ) (flags : ℕ) (extra : SetxattrFlags) →
       At j (begin (setxattr plan inode name value flags extra)) w last w' →
       IsFilledBy plan j.seat who (request.SetXattr inode name value flags extra) state w last after w'
@@ -271,30 +246,34 @@ module _ (plan : Plan) (who : Context) (j : Thread) (w : Full) (last : Answer) (
       kills : List ℕ → Bool
       kills held = kills_sgid state.agreed extra held
 
-      -- where no rule gives the attribute of capabilities another name
-      uncapped_so : (P : Option (List ℕ) → Type 0) → P None → P plan.capability
-      uncapped_so P p = subst P (sym uncaps) p
+      cleared : ObjectContents → ObjectContents
+      cleared = uncapped plan.capability
+
+      readied : List ℕ → ObjectContents → ObjectContents
+      readied held was = sgid_taken (kills held) (uncapped plan.capability was)
 
       is_set : (held : List ℕ) → name_held plan state.agreed name ≡ Some held → (file : XattrFile) (d e h : Full)
-          (f : Found w d state inode file.fd) → Readied w e f.object (kills held) file.fd → (told : HostValue) →
+          (f : Found w d state inode file.fd) → Alters w e (with_changed f.object (readied held) (contents_at w)) →
+          IsOpenOn (world_of e).tree file.fd f.object → (told : HostValue) →
           Makes j e (Calls (call.SetXattr file.fd file.through held value flags)) (Host (host.Ok told)) h →
           Comes j (Gives answer.Done) h last w' → IsFilledBy plan j.seat who asked state w last after w'
-      is_set held is file d e h f r told m k =
-          let was = was_set j e h file.fd file.through held value flags told f.object m.2 r.open_on in
-          let within = within_at w e _ file.fd f.object r.alters m.2.made.0.sound r.open_on in
-          let same : (contents_at e f.object).xattrs held ≡ (contents_at w f.object).xattrs held =
-          ap (λ (c : ObjectContents). c.xattrs held) (r.alters.same f.object within)
+      is_set held is file d e h f a o told m k =
+          let was = was_set j e h file.fd file.through held value flags told f.object m.2 o in
+          let within = within_at w e (with_changed f.object (readied held) (contents_at w)) file.fd f.object a
+          m.2.made.0.sound o in
+          let there : ObjectContents = uncapped plan.capability (contents_at w f.object) in
+          let same : (contents_at e f.object).xattrs held ≡ there.xattrs held =
+          ap (λ (c : ObjectContents). c.xattrs held) (a.same f.object within)
           ∙ ap (λ (c : ObjectContents). c.xattrs held) (set_at_same (contents_at w) f.object
-          (sgid_taken (kills held) (contents_at w f.object)))
-          ∙ ap (λ (x : List ℕ → Option (List ℕ)). x held) (xattrs_kept (kills held) (contents_at w f.object)) in
-          let whole = alters_twice w h f.object (sgid_taken (kills held)) (valued held (Some value))
-          (alters_on w e h (with_changed f.object (sgid_taken (kills held)) (contents_at w)) f.object
+          (sgid_taken (kills held) there))
+          ∙ ap (λ (x : List ℕ → Option (List ℕ)). x held) (xattrs_kept (kills held) there) in
+          let whole = alters_twice w h f.object (readied held) (valued held (Some value))
+          (alters_on w e h (with_changed f.object (readied held) (contents_at w)) f.object
           (valued held (Some value)) within (λ p q z. ap (λ (c : ObjectContents). record (valued held (Some value) c) {
             atime = q.atime;
             mtime = q.mtime;
             ctime = q.ctime;
-          }) z) r.alters was.1) in
-          let at_end = alters_then w h w' _ whole (idles_calm j h w' k.1).keeps in
+          }) z) a was.1) in
           subst (λ (x : Answer). Fills plan j.seat who asked (filled state w) x (filled after w')) (sym k.0) (
             f.object,
             f.stands,
@@ -302,35 +281,37 @@ module _ (plan : Plan) (who : Context) (j : Thread) (w : Full) (last : Answer) (
               held,
               is,
               (
-                uncapped_so (λ name. IsFit flags ((uncapped name (contents_at w f.object)).xattrs held))
-                    (subst (IsFit flags) same was.0),
-                become w w' state after _ g.shows (uncapped_so (λ cap. Alters w w' (with_changed f.object
-                    (λ was. valued held (Some value) (sgid_taken (kills held) (uncapped cap was))) (contents_at w)))
-                    at_end),
+                subst (IsFit flags) same was.0,
+                become w w' state after _ g.shows (alters_then w h w' _ whole (idles_calm j h w' k.1).keeps),
               ),
             ),
           )
 
-      front : (held : List ℕ) → name_held plan state.agreed name ≡ Some held → (file : XattrFile) (d e : Full)
-          (f : Found w d state inode file.fd) → Readied w e f.object (kills held) file.fd → IsRefused e last w' →
-          IsFilledBy plan j.seat who asked state w last after w'
-      front held is file d e f r z =
+      -- refused behind the end of the capabilities, with the bit or without
+      left : (held : List ℕ) → name_held plan state.agreed name ≡ Some held → (taken : Bool) →
+          (taken ≡ true → kills held ≡ true) → (file : XattrFile) (d e : Full) (f : Found w d state inode file.fd) →
+          Alters w e (with_changed f.object (λ was. sgid_taken taken (uncapped plan.capability was)) (contents_at w)) →
+          IsRefused e last w' → IsFilledBy plan j.seat who asked state w last after w'
+      left held is taken so file d e f a z =
           subst (λ (x : Answer). Fills plan j.seat who asked (filled state w) x (filled after w')) (sym z.is) (inr (
             f.object,
             f.stands,
-            (
-              held,
-              is,
-              (
-                kills held,
-                λ k. k,
-                become w w' state after _ g.shows
-                    (uncapped_so (λ cap. Alters w w' (with_changed f.object
-                    (λ was. sgid_taken (kills held) (uncapped cap was)) (contents_at w)))
-                    (alters_then w e w' _ r.alters z.keeps)),
-              ),
-            ),
+            (held, is, (taken, so, become w w' state after _ g.shows (alters_then w e w' _ a z.keeps))),
           ))
+
+      setting_so : (held : List ℕ) → name_held plan state.agreed name ≡ Some held → (file : XattrFile) (d y : Full)
+          (f : Found w d state inode file.fd) → Alters w y (with_changed f.object cleared (contents_at w)) →
+          IsOpenOn (world_of y).tree file.fd f.object →
+          At j (sgid_killed (kills held) file (setting file held)) y last w' →
+          IsFilledBy plan j.seat who asked state w last after w'
+      setting_so held is file d y f a o k =
+          walk_killed j (kills held) file (setting file held) w y (with_changed f.object cleared (contents_at w)) last
+          w' f.object n a o k (left held is false (λ e. absurd (cc)) file d y f a) (λ h r k.
+          let ready = alters_twice w h f.object cleared (sgid_taken (kills held)) r.alters in
+          walk_do j (call.SetXattr file.fd file.through held value flags) (Gives answer.Done) h last w' n
+          (λ told z. still_valued file.fd file.through held value flags told) k
+          (left held is (kills held) (λ e. e) file d h f ready)
+          (λ told x m k. is_set held is file d h x f ready r.open_on told m (comes_at k)))
 
       by_name : (session : BegunSession) (row : Resolved) (d : Full) → session.agreed ≡ w.tables.negotiated →
           Found w d state inode (fd_of row.form) → (found : Result (List ℕ) Errno) →
@@ -343,13 +324,12 @@ module _ (plan : Plan) (who : Context) (j : Thread) (w : Full) (last : Answer) (
           out (refused_from w d last w' f.calm.keeps (refused_with j d errno last w' (comes_at c)))
       by_name session row d z f (Ok held) is c =
           walk_xattr_file plan session j inode row _ w d last w' state g.shows n f c out (λ file e f k.
-          walk_uncapped j plan.capability file.fd file.through _ e last w' uncaps k (λ k.
-          walk_killed j (kills held) file (setting file held) w e last w' f.object n f.calm.keeps f.open_on
-          (subst (λ (x : Negotiated). At j (sgid_killed (kills_sgid x extra held) file (setting file held)) e last w')
-          agreed k) out (λ h r k.
-          walk_do j (call.SetXattr file.fd file.through held value flags) (Gives answer.Done) h last w' n
-          (λ told z. still_valued file.fd file.through held value flags told) k (front held held_so file e h f r)
-          (λ told x m k. is_set held held_so file e h x f r told m (comes_at k)))))
+          walk_clear j plan.capability file.fd file.through _ w e (contents_at w) f.object last w' n f.open_on
+          f.calm.keeps k (λ r. out (refused_from w e last w' f.calm.keeps r)) (λ y u k.
+          setting_so held held_so file e y f u.alters
+          (subst (λ (t : Tree). IsOpenOn t file.fd f.object) (sym u.tree) f.open_on)
+          (subst (λ (x : Negotiated). At j (sgid_killed (kills_sgid x extra held) file (setting file held)) y last w')
+          agreed k)))
         where
           agreed : session.agreed ≡ state.agreed
           agreed = z ∙ sym g.shows.agreed

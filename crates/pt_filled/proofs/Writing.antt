@@ -1,6 +1,6 @@
 -- Proof. `write` and `fallocate`.
 use Rattle.std.specs.Prelude.{if◌then◌else◌}
-use Rattle.std.proofs.Common.{inl, [], ◌∷◌, ◌≡◌, ◌≢◌, ◌<◌, ℕ, List, length, Bool, true, false, Option, Some, None}
+use Rattle.std.proofs.Common.{inl, inr, [], ◌∷◌, ◌≡◌, ◌≢◌, ◌<◌, ℕ, List, length, Bool, true, false, Option, Some, None}
 use Rattle.std.proofs.Common.{refl, sym, ap, subst, ◌∙◌, slice_get, ◌+◌, ◌==◌, cond}
 use Rattle.pt_host.specs.Call.{Call}
 use Rattle.pt_host.specs.Contents.{ObjectContents}
@@ -46,6 +46,7 @@ use Rattle.pt_plain.proofs.Coming.{Law}
 use Rattle.pt_filled.specs.Fills.{Fills}
 use Rattle.pt_filled.specs.Contents.{IsSame, is_file, is_file_kind, keeps_set_id, lengthened, overwritten, start_of}
 use Rattle.pt_filled.specs.Contents.{uncapped, with_changed, Becomes as BecomesThere}
+use Rattle.pt_filled.proofs.Clearing.{alters_twice, walk_clear, within_at}
 use Rattle.pt_filled.proofs.Effects.{rowed, row_there, size_is, bytes_with, file_is, objects_still, ok_has}
 use Rattle.pt_filled.proofs.Effects.{same_parts, was_written, written_so}
 use Rattle.pt_filled.proofs.Filling.{Between, filled, IsFilledBy, refused_fills, become, file_there, open_within}
@@ -167,6 +168,17 @@ respects_length file mode end x y e = by_test (lengthens mode (length x.bytes) e
         by_value true =
             ap (λ (c : ObjectContents). record (longer c) { atime = y.atime; mtime = y.mtime; ctime = y.ctime }) e
 
+-- what was open is so in a later world with the same tree
+open_still : (x y : Full) (fd : Fd) (object : ℕ) → (world_of y).tree ≡ (world_of x).tree →
+    IsOpenOn (world_of x).tree fd object → IsOpenOn (world_of y).tree fd object
+open_still x y fd object e o = subst (λ (t : Tree). IsOpenOn t fd object) (sym e) o
+
+-- where a write begins, with capabilities or without
+same_start : (append : Bool) (offset : ℕ) (name : Option (List ℕ)) (was : ObjectContents) →
+    start_of append offset (uncapped name was) ≡ start_of append offset was
+same_start append offset None was = refl
+same_start append offset (Some name) was = refl
+
 -- a change of what a descriptor is open on in the middle of a job, and the end
 pub changed_all : (j : Thread) (w d e w' : Full) (fd : Fd) (object : ℕ) (change : ObjectContents → ObjectContents) →
     Keeps w d → IsSound d.state → IsOpenOn (world_of d).tree fd object → Respects change →
@@ -180,21 +192,24 @@ changed_all j w d e w' fd object change k l o r a b =
 module _ (plan : Plan) (who : Context) (agreed : Negotiated) (j : Thread) (w : Full) (last : Answer) (w' : Full)
     (state after : PlainTree) (g : Between w w' state after) (n : last ≢ answer.NoMemory) where
   pub fills_write : (inode handle offset : ℕ) (bytes : List ℕ) (delayed kill : Bool) (flags : ℕ) →
-      plan.capability ≡ None →
       j.role ≡ role_in plan j.seat who agreed (request.Write inode handle offset bytes delayed kill flags) →
       At j (begin (write plan j.seat inode handle offset bytes delayed kill flags)) w last w' →
       IsFilledBy plan j.seat who (request.Write inode handle offset bytes delayed kill flags) state w last after w'
-  fills_write inode handle offset bytes delayed kill flags uncaps role c =
+  fills_write inode handle offset bytes delayed kill flags role c =
       walk_begin j _ w last w' n c out (λ session b q z k.
       walk_placed j offset _ b last w' k (λ r. out (refused_from w b last w' q.keeps r)) (λ k.
       walk_held j w last w' state g.shows n out handle inode _ b q k (λ fd d f k.
       walk_without j (drops_fsetid plan j.seat kill) _ d last w' n k (λ r. out (refused_from w d last w' f.calm.keeps
       r))
       (λ e x k.
-      walk_uncapped j plan.capability fd false _ e last w' uncaps k (λ k.
-      walk_count j (makes fd) _ e last w' n (still_write fd offset bytes append) (write_counts fd offset bytes append) k
-      (λ r. out (refused_from w e last w' (keeps_on w d e f.calm.keeps x.keeps) r)) (λ count h m k.
-      unbare k (λ i y k. answered d e h i fd count f x m (bared_calm j h i y) (comes_at k)))))
+      let kept = keeps_on w d e f.calm.keeps x.keeps in
+      let o = open_still d e fd f.object (ap (λ (v : World). v.tree) x.world) f.open_on in
+      walk_clear j plan.capability fd false _ w e (contents_at w) f.object last w' n o kept k
+      (λ r. out (refused_from w e last w' kept r)) (λ y u k.
+      walk_count j (makes fd) _ y last w' n (still_write fd offset bytes append) (write_counts fd offset bytes append) k
+      (left d y fd f u.alters) (λ count h m k.
+      unbare k (λ i v k. answered d y h i fd count f (open_still e y fd f.object u.tree o) u.alters m
+      (bared_calm j h i v) (comes_at k)))))
       (comes_law j (drops fd) d last w' (comes_at k)))))
     where
       asked : Request
@@ -216,33 +231,44 @@ module _ (plan : Plan) (who : Context) (agreed : Negotiated) (j : Thread) (w : F
       same_count : (one other : ℕ) → value.Count one ≡ value.Count other → one ≡ other
       same_count one other e = cc
 
-      answered : (d e h i : Full) (fd : Fd) (count : ℕ) (f : Held w d state handle inode fd) → Bared j d e →
-          Makes j e (Calls (makes fd)) (Host (host.Ok (value.Count count))) h → Calm h i →
+      -- refused behind the end of the capabilities
+      left : (d y : Full) (fd : Fd) (f : Held w d state handle inode fd) →
+          Alters w y (with_changed f.object (uncapped plan.capability) (contents_at w)) → IsRefused y last w' →
+          IsFilledBy plan j.seat who asked state w last after w'
+      left d y fd f a r =
+          subst (λ (x : Answer). Fills plan j.seat who asked (filled state w) x (filled after w')) (sym r.is)
+          (inr (f.object, f.held, become w w' state after _ g.shows (alters_then w y w' _ a r.keeps)))
+
+      answered : (d y h i : Full) (fd : Fd) (count : ℕ) (f : Held w d state handle inode fd) →
+          IsOpenOn (world_of y).tree fd f.object →
+          Alters w y (with_changed f.object (uncapped plan.capability) (contents_at w)) →
+          Makes j y (Calls (makes fd)) (Host (host.Ok (value.Count count))) h → Calm h i →
           Comes j (Gives (answer.Wrote count)) i last w' → IsFilledBy plan j.seat who asked state w last after w'
-      answered d e h i fd count f x m q k =
-          let o = subst (λ (t : Tree). IsOpenOn t fd f.object) (sym (ap (λ (v : World). v.tree) x.world)) f.open_on in
-          let by_seat = subst (λ (r : Role). e.seat ≡ seat_lacking (r.lacks (makes fd)) j.seat) role m.2.as_asked in
+      answered d y h i fd count f o a m q k =
+          let by_seat = subst (λ (r : Role). y.seat ≡ seat_lacking (r.lacks (makes fd)) j.seat) role m.2.as_asked in
           let keeps = keeps_set_id plan j.seat kill in
-          let wrote = was_written j e h fd offset bytes append (value.Count count) f.object keeps m.2 o
-          (keeps_by plan j.seat e.seat kill by_seat) in
-          let kept = keeps_on w d e f.calm.keeps x.keeps in
-          let file = ap (λ (l : List Object). is_file_kind (slice_get l f.object)) kept.objects
+          let wrote = was_written j y h fd offset bytes append (value.Count count) f.object keeps m.2 o
+          (keeps_by plan j.seat y.seat kill by_seat) in
+          let kind = ap (λ (l : List Object). is_file_kind (slice_get l f.object)) a.objects
           ∙ file_there w state f.object g.shows in
+          let file = is_file (filled state w) f.object in
           let so : Bool → ObjectContents → ObjectContents = λ file. written_so keeps file append offset bytes in
-          let there : Alters e h (with_changed f.object (so (is_file (filled state w) f.object)) (contents_at e)) =
-          subst (λ (x : Bool). Alters e h (with_changed f.object (so x) (contents_at e))) file wrote.1 in
-          let all = changed_all j w e h w' fd f.object (so (is_file (filled state w) f.object)) kept m.2.made.0.sound o
-          (respects_write keeps (is_file (filled state w) f.object) append offset bytes) there
-          (keeps_on h i w' q.keeps (idles_calm j i w' k.1).keeps) in
-          let made = become w w' state after _ g.shows all in
+          let there : Alters y h (with_changed f.object (so file) (contents_at y)) =
+          subst (λ (x : Bool). Alters y h (with_changed f.object (so x) (contents_at y))) kind wrote.1 in
+          let cleared : ℕ → ObjectContents = with_changed f.object (uncapped plan.capability) (contents_at w) in
+          let on = alters_on w y h cleared f.object (so file) (within_at w y cleared fd f.object a m.2.made.0.sound o)
+          (respects_write keeps file append offset bytes) a there in
+          let all = alters_twice w w' f.object (uncapped plan.capability) (so file)
+          (alters_then w h w' (with_changed f.object (so file) cleared) on
+          (keeps_on h i w' q.keeps (idles_calm j i w' k.1).keeps)) in
           subst (λ (x : Answer). Fills plan j.seat who asked (filled state w) x (filled after w')) (sym k.0) (
             f.object,
             f.held,
             (
               same_count count (length bytes) wrote.0,
-              subst (λ (name : Option (List ℕ)). BecomesThere (filled state w) f.object
-                  (λ was. overwritten keeps (is_file (filled state w) f.object) (start_of append offset was) bytes
-                  (uncapped name was)) (filled after w')) (sym uncaps) made,
+              subst (λ (change : ObjectContents → ObjectContents). BecomesThere (filled state w) f.object change
+                  (filled after w')) (λ i was. overwritten keeps file (same_start append offset plan.capability was i)
+                  bytes (uncapped plan.capability was)) (become w w' state after _ g.shows all),
             ),
           )
 

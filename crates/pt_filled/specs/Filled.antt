@@ -15,7 +15,6 @@ abbrev pub BringsNone : Extensions → Type 0
 BringsNone ext = ext.secctx ≡ None
 
 abbrev pub IsFilledRequest : Plan → Request → Type 0
-IsFilledRequest plan (request.Write inode handle offset bytes delayed kill flags) = LeavesCapabilities plan
 IsFilledRequest plan (request.Open inode kill flags) = LeavesCapabilities plan
 IsFilledRequest plan (request.OpenDir inode flags) = LeavesCapabilities plan
 IsFilledRequest plan (request.Create parent name mode kill flags umask ext) =
@@ -24,8 +23,6 @@ IsFilledRequest plan (request.SetAttr inode handle valid attr) = LeavesCapabilit
 IsFilledRequest plan (request.Mkdir parent name mode umask ext) = BringsNone ext
 IsFilledRequest plan (request.Mknod parent name mode rdev umask ext) = BringsNone ext
 IsFilledRequest plan (request.Symlink target parent name ext) = BringsNone ext
-IsFilledRequest plan (request.SetXattr inode name value flags extra) = LeavesCapabilities plan
-IsFilledRequest plan (request.ListXattr inode size) = ⊥
 IsFilledRequest plan (request.ReadDir inode handle size offset) = ⊥
 IsFilledRequest plan asked = Unit {0}
 
