@@ -137,9 +137,9 @@ module _ (plan : Plan) (who : Context) (agreed : Negotiated) (j : Thread) (w : F
   fills_in_session (request.Link inode newparent newname) f r a v c =
       fills_link plan who j w last w' state after g n inode newparent newname v c
   fills_in_session (request.Open inode kill flags) f r a v c =
-      fills_open plan who agreed j w last w' state after g n f inode kill flags r v c
+      fills_open plan who agreed j w last w' state after g n inode kill flags r v c
   fills_in_session (request.OpenDir inode flags) f r a v c =
-      fills_open_dir plan who agreed j w last w' state after g n f inode flags r v c
+      fills_open_dir plan who agreed j w last w' state after g n inode flags r v c
   fills_in_session (request.Mkdir parent name mode umask ext) f r a v c =
       fills_mkdir plan who agreed j w last w' state after g n a parent name mode umask ext f r v c
   fills_in_session (request.Mknod parent name mode rdev umask ext) f r a v c =
@@ -147,9 +147,9 @@ module _ (plan : Plan) (who : Context) (agreed : Negotiated) (j : Thread) (w : F
   fills_in_session (request.Symlink target parent name ext) f r a v c =
       fills_symlink plan who agreed j w last w' state after g n a target parent name ext f r v c
   fills_in_session (request.Create parent name mode kill flags umask ext) f r a v c =
-      fills_create plan who agreed j w last w' state after g n a parent name mode kill flags umask ext f.0 f.1 r v c
+      fills_create plan who agreed j w last w' state after g n a parent name mode kill flags umask ext f r v c
   fills_in_session (request.SetAttr inode handle valid attr) f r a v c =
-      fills_setattr plan who agreed inode handle valid attr j w last w' state after g n f r c
+      fills_setattr plan who agreed inode handle valid attr j w last w' state after g n r c
   fills_in_session (request.SetXattr inode name value flags extra) f r a v c =
       fills_setxattr plan who j w last w' state after g n inode name value flags extra c
   fills_in_session (request.GetXattr inode name size) f r a v c =

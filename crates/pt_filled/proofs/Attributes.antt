@@ -35,7 +35,7 @@ use Rattle.pt_plain.specs.Plain.{PlainTree, Stands}
 use Rattle.pt_plain.proofs.Walking.{Quiet, quiet_on}
 use Rattle.pt_filled.specs.Fills.{Fills, OfTarget, set_to, Sets, sized, Stage, Stage.{Bared as BaredStage}}
 use Rattle.pt_filled.specs.Fills.{Stage.{Disowned, Moded, Owned, Sized, Untouched}}
-use Rattle.pt_filled.specs.Contents.{keeps_set_id, AllBecome, sets_owner}
+use Rattle.pt_filled.specs.Contents.{keeps_set_id, AllBecome}
 use Rattle.pt_filled.proofs.Effects.{was_seen}
 use Rattle.pt_filled.proofs.Filling.{Between, filled, IsFilledBy, refused_fills, become, file_there, stands_from}
 use Rattle.pt_filled.proofs.Filling.{handle_from, stat_then}
@@ -46,11 +46,11 @@ use Rattle.pt_filled.proofs.Parts.{walk_if}
 use Rattle.pt_filled.proofs.Threading.{Comes, Makes}
 use Rattle.pt_filled.proofs.Finding.{walk_found}
 use Rattle.pt_filled.proofs.Tails.{stat_leaves}
-use Rattle.pt_filled.proofs.Setting.{alters_uncapped, walk_file_set, walk_mode, walk_owner, walk_size, walk_times}
+use Rattle.pt_filled.proofs.Setting.{walk_file_set, walk_mode, walk_owner, walk_size, walk_times}
 
 module _ (plan : Plan) (who : Context) (agreed : Negotiated) (inode : ℕ) (handle : Option ℕ) (valid : SetattrValid)
     (attr : SetattrIn) (j : Thread) (w : Full) (last : Answer) (w' : Full) (state after : PlainTree)
-    (g : Between w w' state after) (n : last ≢ answer.NoMemory) (uncaps : plan.capability ≡ None)
+    (g : Between w w' state after) (n : last ≢ answer.NoMemory)
     (role : j.role ≡ role_in plan j.seat who agreed (request.SetAttr inode handle valid attr)) where
   abbrev Whole : Type 0
   Whole = IsFilledBy plan j.seat who (request.SetAttr inode handle valid attr) state w last after w'
@@ -150,20 +150,18 @@ module _ (plan : Plan) (who : Context) (agreed : Negotiated) (inode : ℕ) (hand
       walk_mode (sets_mode valid) j tfd through attr.mode (owning file tfd through) w x (contents_at w) target last w'
       n ot
       qx.keeps c (λ r. front object target st of Untouched x qx.keeps r) (λ y ry cy.
-      let ay = alters_uncapped w y (set_at object target Moded) object (sets_owner valid) plan.capability uncaps
-      ry.alters in
       walk_owner (sets_uid valid || sets_gid valid) j plan.capability file
       (id_set (sets_uid valid) (to_host plan.uid_map attr.uid)) (id_set (sets_gid valid) (to_host plan.gid_map
       attr.gid))
-      (sizing tfd through) w y (set_at object target Disowned) object last w' n uncaps
-      (open_later x y file object ry.tree o) ay cy (λ r. front object target st of Disowned y ay r) (λ z rz cz.
-      let az = alters_uncapped w z (set_at object target Owned) target (sets_size valid) plan.capability uncaps
-      rz.alters in
+      (sizing tfd through) w y (set_at object target Moded) object last w' n
+      (open_later x y file object ry.tree o) ry.alters cy (λ r. front object target st of Moded y ry.alters r)
+      (λ v av r. front object target st of Disowned v av r) (λ z rz cz.
       walk_size (sets_size valid) plan (kills_suidgid valid) j plan.capability tfd attr.size (timed tfd through) w z
-      (set_at object target BaredStage) target last w' n uncaps
+      (set_at object target Owned) target last w' n
       (ap (λ (r : Role). r.lacks (call.Truncate tfd attr.size)) role)
-      (open_later y z tfd target rz.tree (open_later x y tfd target ry.tree ot)) az cz
-      (λ r. front object target st of BaredStage z az r) (λ v rv cv.
+      (open_later y z tfd target rz.tree (open_later x y tfd target ry.tree ot)) rz.alters cz
+      (λ r. front object target st of Owned z rz.alters r)
+      (λ v av r. front object target st of BaredStage v av r) (λ v rv cv.
       sized_to object target st of v (quiet_on (world_of w) (world_of x) (world_of v) qx.quiet
       (quiet_on (world_of x) (world_of y) (world_of v) ry.quiet (quiet_on (world_of y) (world_of z) (world_of v)
       rz.quiet

@@ -3,8 +3,8 @@ use Rattle.std.specs.Prelude.{◌||◌, if◌then◌else◌}
 use Rattle.std.specs.Map.{update}
 use Rattle.std.specs.Str.{bytes_eq}
 use Rattle.std.proofs.Common.{[], ◌∷◌, ◌≡◌, ◌≢◌, ◌<◌, ℕ, List, length, Bool, true, false, Option, Some, None, refl, sym}
-use Rattle.std.proofs.Common.{ap, subst, ◌∙◌, ◌==◌, cond, is_none, is_some, inl, inr, option_and_then, option_map}
-use Rattle.std.proofs.Common.{slice_get, slice_set, ⊎_elim}
+use Rattle.std.proofs.Common.{ap, subst, ◌∙◌, ◌==◌, cond, is_none, inl, inr, option_and_then, option_map}
+use Rattle.std.proofs.Common.{slice_get, ⊎_elim}
 use Rattle.std.proofs.lemmas.Bool.{cases_eq}
 use Rattle.std.proofs.lemmas.Option.{slice_get_within}
 use Rattle.pt_host.specs.Contents.{ObjectContents}
@@ -47,13 +47,13 @@ use Rattle.pt_rules.specs.State.{State, contents_where, time_of, tree_of}
 use Rattle.pt_rules.specs.Table.{Outcome}
 use Rattle.pt_rules.specs.Laws.NameTable.{found-unnamed}
 use Rattle.pt_plain.proofs.Stilling.{still_goes}
-use Rattle.pt_plain.proofs.Walking.{some_is}
+use Rattle.pt_plain.proofs.Walking.{Quiet, quiet_none, some_is}
 use Rattle.pt_filled.specs.Contents.{IsSame, uncapped, valued, with_changed}
 use Rattle.pt_filled.proofs.Effects.{same_parts}
 use Rattle.pt_filled.proofs.Filling.{open_within}
 use Rattle.pt_filled.proofs.Hosting.{Alters, alters_on, contents_at, Full, objects_at, Respects, Steps}
 use Rattle.pt_filled.proofs.Hosting.{Thread, world_of}
-use Rattle.pt_filled.proofs.Parts.{At, IsRefused, Leaves, walk_ask}
+use Rattle.pt_filled.proofs.Parts.{At, IsRefused, Leaves, quiet_makes, walk_ask}
 use Rattle.pt_filled.proofs.Tables.{alters_set, IsSetTo, opened_object}
 use Rattle.pt_filled.proofs.Threading.{IdlesBy, Makes}
 
@@ -279,6 +279,7 @@ respects_none name a b e =
 -- from one world to a later one, in which what was open is so, and contents are these without the capabilities
 pub record Cleared (w x y : Full) (object : ℕ) (name : Option (List ℕ)) (are : ℕ → ObjectContents) : Type 0 where
   pub tree : (world_of y).tree ≡ (world_of x).tree
+  pub quiet : Quiet (world_of x) (world_of y)
   pub alters : Alters w y (with_changed object (uncapped name) are)
 
 still_gone : (fd : Fd) (through : Bool) (name : List ℕ) (told : ActReply) → gone_in told ≡ None →
@@ -300,7 +301,7 @@ pub walk_clear : {G : Type 0} (j : Thread) (name : Option (List ℕ)) (fd : Fd) 
     IsOpenOn (world_of x).tree fd object → Alters w x are → At j (capability_cleared name fd through next) x last w' →
     (IsRefused x last w' → G) → ((y : Full) → Cleared w x y object name are → At j next y last w' → G) → G
 walk_clear j None fd through next w x are object last w' n o a c out goes =
-    goes x (record { tree = refl; alters = alters_idle w x are object a }) c
+    goes x (record { tree = refl; quiet = quiet_none (world_of x); alters = alters_idle w x are object a }) c
 walk_clear {G} j (Some name) fd through next w x are object last w' n o a c out goes =
     walk_ask j (Calls (call.RemoveXattr fd through name)) gone_in (λ done. next) x last w' n
     (still_gone fd through name) c out go
@@ -310,6 +311,7 @@ walk_clear {G} j (Some name) fd through next w x are object last w' n o a c out 
     cleared told y g m =
         let sound = m.2.made.0.sound in record {
           tree = tree_still (world_of x).tree (world_of y).tree fd through name told m.2.goes.made.0.0.trees.changes;
+          quiet = quiet_makes j x y (Calls (call.RemoveXattr fd through name)) (Host told) m tt tt;
           alters = alters_on w x y are object (valued name None) (within_at w x are fd object a sound o)
               (respects_none name) a (was_cleared j x y fd through name told object m.2 g sound o);
         }

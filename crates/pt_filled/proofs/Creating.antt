@@ -3,6 +3,7 @@ use Rattle.std.specs.Prelude.{◌&&◌}
 use Rattle.std.proofs.Common.{inl, inr, [], ◌≡◌, ◌≢◌, ◌<◌, ℕ, List, length, Bool, true, Option, Some, None, refl, sym}
 use Rattle.std.proofs.Common.{ap, subst, ◌∙◌, slice_get}
 use Rattle.pt_host.specs.Tree.{Tree, Object}
+use Rattle.pt_host.specs.Contents.{ObjectContents}
 use Rattle.pt_host.specs.Flags.{includes, o_trunc}
 use Rattle.pt_host.specs.declared.ids.Errno.{Errno}
 use Rattle.pt_host.specs.declared.op.KeptHostOp.TheVariants as call
@@ -25,9 +26,9 @@ use Rattle.pt_law.proofs.Givings.{live_count}
 use Rattle.pt_fit.specs.Asker.{role_in, asker_in}
 use Rattle.pt_plain.specs.Plain.{PlainTree}
 use Rattle.pt_plain.specs.Serves.{Serves}
-use Rattle.pt_filled.specs.Fills.{Fills, emptied_by, OpensNamed}
-use Rattle.pt_filled.specs.Contents.{is_file_kind, keeps_set_id, with_changed, emptied, truncates}
-use Rattle.pt_filled.specs.New.{fresh, in_context_if, Makes as MakesNew, MakesAsked, permitted}
+use Rattle.pt_filled.specs.Fills.{Fills, IsNamed}
+use Rattle.pt_filled.specs.Contents.{is_file, is_file_kind, with_changed, uncapped_if, Becomes as BecomesThere}
+use Rattle.pt_filled.specs.New.{fresh, in_context_if, Makes as MakesNew, MakesAsked, next_object, permitted}
 use Rattle.pt_filled.specs.Told.{NamesEntry}
 use Rattle.pt_filled.proofs.Filling.{Between, filled, IsFilledBy, stat_of, become, file_there, objects_of}
 use Rattle.pt_filled.proofs.Filling.{stands_from}
@@ -38,7 +39,7 @@ use Rattle.pt_filled.proofs.Entries.{entry_agreed, gives_agreed}
 use Rattle.pt_filled.proofs.News.{HasMade}
 use Rattle.pt_filled.proofs.Creations.{CreatesSo, creates_so, EndsSo}
 use Rattle.pt_filled.proofs.Made.{made_filled, stayed_filled}
-use Rattle.pt_filled.proofs.Opened.{uncapped_so}
+use Rattle.pt_filled.proofs.Opened.{emptied_so}
 
 not_created : (errno : Errno) (entry : Entry) (handle : ℕ) (options : OpenOptions) →
     answer.Created entry handle options ≡ answer.Refused errno → ⊥
@@ -52,14 +53,13 @@ module _ (plan : Plan) (who : Context) (agreed : Negotiated) (j : Thread) (w : F
     (state after : PlainTree) (g : Between w w' state after) (n : last ≢ answer.NoMemory)
     (a : agreed ≡ w.tables.negotiated) where
   pub fills_create : (parent : ℕ) (name : List ℕ) (mode : ℕ) (kill : Bool) (flags umask : ℕ) (ext : Extensions) →
-      ext.secctx ≡ None → plan.capability ≡ None →
+      ext.secctx ≡ None →
       j.role ≡ role_in plan j.seat who agreed (request.Create parent name mode kill flags umask ext) →
       Serves plan (request.Create parent name mode kill flags umask ext) state last after →
       At j (begin (create plan j.seat (file_asked who parent name mode kill flags umask ext))) w last w' →
       IsFilledBy plan j.seat who (request.Create parent name mode kill flags umask ext) state w last after w'
-  fills_create parent name mode kill flags umask ext bare uncaps role v c =
+  fills_create parent name mode kill flags umask ext bare role v c =
       fills last refl v (creates_so plan (file_asked who parent name mode kill flags umask ext) j w last w' n bare
-      uncaps
       (λ fd how. ap (λ (r : Role). r.lacks (call.Reopen fd how)) role) c)
     where
       asked : Request
@@ -77,36 +77,43 @@ module _ (plan : Plan) (who : Context) (agreed : Negotiated) (j : Thread) (w : F
             (sym bare) (made_filled w w' state after 8 _ g m),
       )
 
-      olds : (dir object : ℕ) (e : Full) → Calm w e → e.past.numbers parent ≡ Some dir →
-          0 < live_count parent e.tables → (world_of e).tree.names dir name ≡ Some object →
-          Alters w w' (with_changed object (emptied (keeps_set_id plan j.seat kill)
-          (is_file_kind (slice_get (objects_at w) object) && truncates flags)) (contents_at w)) →
-          OpensNamed plan j.seat parent name kill flags (filled state w) (filled after w')
-      olds dir object e q is live leads al = (
+      -- the file that has the name, as it has become
+      olds : (dir object : ℕ) (change : Bool → ObjectContents → ObjectContents) (e : Full) → Calm w e →
+          e.past.numbers parent ≡ Some dir → 0 < live_count parent e.tables →
+          (world_of e).tree.names dir name ≡ Some object →
+          Alters w w' (with_changed object (change (is_file_kind (slice_get (objects_at w) object)))
+          (contents_at w)) →
+          (object : ℕ) × IsNamed state parent name object
+          × BecomesThere (filled state w) object (change (is_file (filled state w) object)) (filled after w')
+      olds dir object change e q is live leads al = (
         object,
         (
           dir,
           stands_from w e state parent dir g.shows q.quiet is live,
           ap (λ (t : Tree). t.names dir name) (g.shows.tree ∙ sym q.quiet.still.tree) ∙ leads,
         ),
-        uncapped_so (includes flags o_trunc) plan.capability (filled state w) object
-            (emptied_by plan j.seat kill flags (filled state w) object) (filled after w') uncaps
-            (become w w' state after _ g.shows (subst (λ (x : Bool). Alters w w' (with_changed object
-            (emptied (keeps_set_id plan j.seat kill) (x && truncates flags)) (contents_at w)))
-            (file_there w state object g.shows) al)),
+        become w w' state after _ g.shows (subst (λ (x : Bool). Alters w w' (with_changed object (change x)
+            (contents_at w))) (file_there w state object g.shows) al),
       )
+
+      whole : Bool → ObjectContents → ObjectContents
+      whole file was =
+          uncapped_if (includes flags o_trunc) plan.capability (emptied_so plan j.seat kill flags file was)
+
+      none_new : objects_at w' ≡ objects_at w → next_object (filled after w') ≡ next_object (filled state w)
+      none_new same =
+          ap (length {A = Object}) (objects_of w' after g.ends ∙ same ∙ sym (objects_of w state g.shows))
 
       fills : (told : Answer) → last ≡ told → Serves plan asked state told after →
           CreatesSo j plan w.tables.negotiated parent name mode kill flags w last w' →
           Fills plan j.seat who asked (filled state w) told (filled after w')
       fills (answer.Refused errno) e v (inl r) = inl (inl (stayed_filled w w' state after g r.keeps))
       fills (answer.Refused errno) e v (inr (inl m)) = inl (inr (true, news m.0 m.1 m.2))
-      fills (answer.Refused errno) e v (inr (inr o)) =
-          let k = olds o.0 o.1 o.2 o.3 o.4 o.5 o.6 o.7 in
-          inr (
-            (k.0, k.1, inr k.2),
-            ap (length {A = Object}) (objects_of w' after g.ends ∙ o.7.objects ∙ sym (objects_of w state g.shows)),
-          )
+      fills (answer.Refused errno) e v (inr (inr (dir, object, f, q, is, live, leads, inl z, end))) =
+          let k = olds dir object (emptied_so plan j.seat kill flags) f q is live leads z.1 in
+          inr ((k.0, k.1, inl k.2), none_new z.1.objects)
+      fills (answer.Refused errno) e v (inr (inr (dir, object, f, q, is, live, leads, inr z, end))) =
+          let k = olds dir object whole f q is live leads z in inr ((k.0, k.1, inr k.2), none_new z.objects)
       fills (answer.Created entry handle options) e v (inl r) =
           absurd (not_created r.errno entry handle options (sym e ∙ r.is))
       fills (answer.Created entry handle options) e v (inr (inl m)) =
@@ -127,8 +134,10 @@ module _ (plan : Plan) (who : Context) (agreed : Negotiated) (j : Thread) (w : F
           told_new (inr t) = subst (λ (z : Entry). NamesEntry plan (filled state w) parent name z (filled after w'))
               (sym (same_created entry t.0 handle t.1 options t.2 (sym e ∙ t.3)))
               (told_entry plan w w' state after w.tables.negotiated parent name t.0 g.shows g.ends agreed_there t.4)
-      fills (answer.Created entry handle options) e v (inr (inr o)) =
-          inr (olds o.0 o.1 o.2 o.3 o.4 o.5 o.6 o.7, told_old o.2 o.3 o.8)
+      fills (answer.Created entry handle options) e v (inr (inr (dir, object, f, q, is, live, leads, inl z, end))) =
+          absurd (not_created z.0.0 entry handle options (sym e ∙ z.0.1))
+      fills (answer.Created entry handle options) e v (inr (inr (dir, object, f, q, is, live, leads, inr z, end))) =
+          inr (olds dir object whole f q is live leads z, told_old f q end)
         where
           told_old : (f : Full) → Calm w f →
               EndsSo (λ entry. (g : Full) × IsLooked plan w.tables.negotiated f g parent name entry) last →

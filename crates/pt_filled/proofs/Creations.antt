@@ -3,7 +3,7 @@ use Rattle.std.specs.Prelude.{if◌then◌else◌, ◌⊎◌, ◌&&◌, ◌||◌
 use Rattle.std.proofs.Common.{inl, inr, [], ◌≡◌, ◌≢◌, ◌<◌, ℕ, List, Bool, true, false, Option, Some, None, refl, sym}
 use Rattle.std.proofs.Common.{ap, subst, ◌∙◌, slice_get, cond}
 use Rattle.pt_host.specs.Contents.{ObjectContents}
-use Rattle.pt_host.specs.Flags.{includes, o_directory, o_excl, o_path}
+use Rattle.pt_host.specs.Flags.{includes, o_directory, o_excl, o_path, o_trunc}
 use Rattle.pt_host.specs.Errno.{eexist, einval, estale}
 use Rattle.pt_host.specs.declared.ids.Errno.{Errno}
 use Rattle.pt_host.specs.declared.ids.Fd.{Fd}
@@ -54,9 +54,9 @@ use Rattle.pt_rules.specs.NameCalls.{masked}
 use Rattle.pt_rules.specs.OpeningCalls.{create_or_open, created_checks, creating_checks, open_at_name, open_creating}
 use Rattle.pt_rules.specs.OpeningCalls.{open_named, open_new}
 use Rattle.pt_plain.proofs.Showing.{bare_tree}
-use Rattle.pt_filled.specs.Contents.{is_file_kind, keeps_set_id, with_changed, emptied, truncates}
+use Rattle.pt_filled.specs.Contents.{is_file_kind}
 use Rattle.pt_filled.specs.New.{fresh, permitted}
-use Rattle.pt_filled.proofs.Hosting.{Full, Keeps, Thread, contents_at, world_of, Alters, Bared, objects_at}
+use Rattle.pt_filled.proofs.Hosting.{Full, Keeps, Thread, world_of, Bared, objects_at}
 use Rattle.pt_filled.proofs.Parts.{At, Calm, IsRefused, comes_at, keeps_on, leaves_keeps, refused_from, walk_begin}
 use Rattle.pt_filled.proofs.Parts.{walk_stat, bared_calm, calm_on, walk_named, tree_throughout, At.{by}, refused_at}
 use Rattle.pt_filled.proofs.Parts.{walk_resolve, walk_file, calm_goes}
@@ -66,7 +66,7 @@ use Rattle.pt_filled.proofs.Looking.{IsLooked, IsToldSo, walk_look_up}
 use Rattle.pt_filled.proofs.Tails.{Leaving, leaving_look_up, leaving_handled, leaving_unless, stat_leaves}
 use Rattle.pt_filled.proofs.News.{HasMade, made_from, made_then, has_made, MakeOk}
 use Rattle.pt_filled.proofs.Endings.{Ending, ending_handled, ending_open_num, ends_with}
-use Rattle.pt_filled.proofs.Opened.{OpensSo, opens_so}
+use Rattle.pt_filled.proofs.Opened.{ClearsSo, emptied_so, OpensSo, opens_so}
 use Rattle.pt_filled.proofs.Makings.{walk_asker}
 use Rattle.pt_filled.proofs.Staying.{left_by}
 
@@ -236,21 +236,21 @@ CreatesSo j plan agreed parent name mode kill flags w last w' =
     × EndsSo (λ entry. IsToldSo plan w agreed parent name entry w') last)
     ⊎ ((dir : ℕ) × (object : ℕ) × (e : Full) × Calm w e × (e.past.numbers parent ≡ Some dir)
     × (0 < live_count parent e.tables) × ((world_of e).tree.names dir name ≡ Some object)
-    × Alters w w' (with_changed object (emptied (keeps_set_id plan j.seat kill)
-    (is_file_kind (slice_get (objects_at w) object) && truncates flags)) (contents_at w))
+    × ClearsSo (includes flags o_trunc) plan.capability w last w' object
+    (emptied_so plan j.seat kill flags (is_file_kind (slice_get (objects_at w) object)))
     × EndsSo (λ entry. (g : Full) × IsLooked plan agreed e g parent name entry) last))
 
 some_same : {one other : ℕ} → Some one ≡ Some other → one ≡ other
 some_same e = cc
 
 pub creates_so : (plan : Plan) (asked : FileAsked) (j : Thread) (w : Full) (last : Answer) (w' : Full) →
-    last ≢ answer.NoMemory → asked.ext.secctx ≡ None → plan.capability ≡ None →
+    last ≢ answer.NoMemory → asked.ext.secctx ≡ None →
     ((fd : Fd) (how : OpenFlags) → j.role.lacks (call.Reopen fd how) ≡ fsetid_if (drops_fsetid plan j.seat
     asked.kill)) →
     At j (begin (create plan j.seat asked)) w last w' →
     CreatesSo j plan w.tables.negotiated asked.parent asked.name asked.mode asked.kill asked.flags w last w'
 unfolding make_file
-creates_so plan asked j w last w' n bare uncaps lacks c =
+creates_so plan asked j w last w' n bare lacks c =
     walk_begin j _ w last w' n c inl (λ session b q z k.
     walk_named j asked.name _ b last w' k (λ r. inl (refused_from w b last w' q.keeps r)) (λ k.
     walk_resolve j asked.parent _ b last w' n k (λ r. inl (refused_from w b last w' q.keeps r)) (λ directory d rd k.
@@ -361,7 +361,7 @@ creates_so plan asked j w last w' n bare uncaps lacks c =
         (λ handle. record { by = inr (looked.entry, handle, create_options plan.config, refl, (g, l')) })).by
         (comes_at cg))
         (opens_so plan session looked.entry.inode asked.kill asked.flags
-        (λ handle. ends_in plan asked (named_handle looked.entry handle)) j w g last w' n uncaps lacks
+        (λ handle. ends_in plan asked (named_handle looked.entry handle)) j w g last w' n lacks
         (λ handle. record { by = tt }) (keeps_on w e g qe.keeps l'.keeps) cg))
       where
         opened : (looked : Looked) (g : Full) →

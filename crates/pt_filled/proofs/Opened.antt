@@ -1,7 +1,7 @@
 -- Proof. A number is opened: what that makes of contents.
 use Rattle.std.specs.Prelude.{◌&&◌}
 use Rattle.std.specs.Int.RustNames.{bit_and}
-use Rattle.std.proofs.Common.{inl, inr, ◌≡◌, ◌≢◌, ◌<◌, ℕ, List, Bool, true, false, Option, Some, None, refl, sym, ap}
+use Rattle.std.proofs.Common.{inl, inr, ◌≡◌, ◌≢◌, ◌<◌, ℕ, List, Bool, true, false, Option, Some, refl, sym, ap}
 use Rattle.std.proofs.Common.{subst, ◌∙◌, slice_get, ◌==◌, cond, ◌⊎◌, ◌-◌, ◌^◌, not}
 use Rattle.std.proofs.lemmas.Nat.{and_or_apart, and_assoc}
 use Rattle.pt_host.specs.Contents.{ObjectContents}
@@ -34,20 +34,23 @@ use Rattle.pt_req.specs.Parts.{handled, open_form, open_inode, open_num, open_ro
 use Rattle.pt_req.specs.declared.begun.BegunSession.{BegunSession}
 use Rattle.pt_req.specs.declared.plan.Plan.{Plan}
 use Rattle.pt_req.specs.declared.plan.Config.{Config}
-use Rattle.pt_law.specs.World.{fd_of}
+use Rattle.pt_law.specs.World.{fd_of, World}
 use Rattle.pt_law.specs.Under.{seat_lacking}
 use Rattle.pt_law.proofs.Givings.{live_count}
 use Rattle.pt_fit.specs.Asker.{fsetid_if}
-use Rattle.pt_filled.specs.Contents.{is_file_kind, keeps_set_id, with_changed, Becomes as BecomesThere, emptied}
-use Rattle.pt_filled.specs.Contents.{FilledTree, truncates, uncapped_if}
+use Rattle.pt_filled.specs.Contents.{is_file_kind, keeps_set_id, with_changed, emptied}
+use Rattle.pt_filled.specs.Contents.{truncates, uncapped, uncapped_if}
 use Rattle.pt_filled.proofs.Hosting.{Full, Keeps, Thread, contents_at, world_of, Alters, Respects, objects_at}
+use Rattle.pt_filled.proofs.Hosting.{alters_on, alters_then, keeps_none}
 use Rattle.pt_filled.proofs.Parts.{At, Calm, IsRefused, comes_at, keeps_on, refused_from, bared_calm, calm_on, unbare}
 use Rattle.pt_filled.proofs.Parts.{in_bracket, IsResolved, walk_reopen, walk_resolve, walk_unless}
 use Rattle.pt_filled.proofs.Threading.{Makes, comes_law}
+use Rattle.pt_filled.proofs.Clearing.{alters_twice, walk_clear, within_at}
+use Rattle.pt_filled.proofs.Setting.{opened_anew}
 use Rattle.pt_filled.proofs.Effects.{reopened_directory, was_reopened}
 use Rattle.pt_filled.proofs.Staying.{left_by}
 use Rattle.pt_filled.proofs.Tails.{Leaving, leaving_handled, leaving_shuts}
-use Rattle.pt_filled.proofs.Writing.{changed_all, keeps_by, walk_uncapped, walk_without}
+use Rattle.pt_filled.proofs.Writing.{keeps_by, walk_without}
 
 -- ---- the daemon's own flags touch neither `O_TRUNC` nor `O_PATH`
 
@@ -55,7 +58,7 @@ without_same : (flags bits bit : ℕ) → bit_and (2 ^ 32 - 1 - bits) bit ≡ bi
     bit_and (without_bits flags bits) bit ≡ bit_and flags bit
 without_same flags bits bit e = and_assoc bit flags (2 ^ 32 - 1 - bits) ∙ ap (bit_and flags) e
 
-with_same : (flags bits bit : ℕ) → bit_and bits bit ≡ 0 → bit_and (with_bits flags bits) bit ≡ bit_and flags bit
+pub with_same : (flags bits bit : ℕ) → bit_and bits bit ≡ 0 → bit_and (with_bits flags bits) bit ≡ bit_and flags bit
 with_same flags bits bit e = and_or_apart bit flags bits e
 
 -- the bit is none of the daemon's own
@@ -159,25 +162,15 @@ respects_emptied keeps true a b e =
     ap (λ (c : ObjectContents). record (emptied keeps true c) { atime = b.atime; mtime = b.mtime; ctime = b.ctime }) e
 respects_emptied keeps false a b e = e
 
--- where no rule gives the attribute of capabilities another name
-uncaps_none : (b : Bool) → uncapped_if b None ≡ (λ (was : ObjectContents). was)
-uncaps_none true = refl
-uncaps_none false = refl
+-- The object was changed so as it was opened, and then lost its capabilities, or was refused before it did.
+abbrev pub ClearsSo : Bool → Option (List ℕ) → Full → Answer → Full → ℕ → (ObjectContents → ObjectContents) → Type 0
+ClearsSo clears name w last w' object change =
+    (((errno : Errno) × (last ≡ answer.Refused errno)) × Alters w w' (with_changed object change (contents_at w)))
+    ⊎ Alters w w' (with_changed object (λ was. uncapped_if clears name (change was)) (contents_at w))
 
-pub uncapped_so : (b : Bool) (name : Option (List ℕ)) (state : FilledTree) (object : ℕ)
-    (change : ObjectContents → ObjectContents) (after : FilledTree) → name ≡ None →
-    BecomesThere state object change after →
-    BecomesThere state object (λ was. uncapped_if b name (change was)) after
-uncapped_so b name state object change after e k =
-    subst (λ (name : Option (List ℕ)). BecomesThere state object (λ was. uncapped_if b name (change was)) after) (sym e)
-    (subst (λ (f : ObjectContents → ObjectContents). BecomesThere state object (λ was. f (change was)) after)
-    (sym (uncaps_none b)) k)
-
-walk_cleared : {G : Type 0} (j : Thread) (emptied : Bool) (name : Option (List ℕ)) (fd : Fd) (next : RequestTree)
-    (w : Full) (last : Answer) (w' : Full) → name ≡ None → At j (cleared_if emptied name fd next) w last w' →
-    (At j next w last w' → G) → G
-walk_cleared j false name fd next w last w' e c goes = goes c
-walk_cleared j true name fd next w last w' e c goes = walk_uncapped j name fd false next w last w' e c goes
+-- what an opening makes of an object before it loses its capabilities
+abbrev pub emptied_so : Plan → HostSeat → Bool → ℕ → Bool → ObjectContents → ObjectContents
+emptied_so plan seat kill flags file was = emptied (keeps_set_id plan seat kill) (file && truncates flags) was
 
 -- What an opening that begins in the second world leaves of contents, however it ends: it was refused before, or the
 -- object was emptied, or not.
@@ -185,18 +178,18 @@ abbrev pub OpensSo : Plan → HostSeat → Bool → ℕ → ℕ → Full → Ful
 OpensSo plan seat kill flags inode w b last w' =
     ((errno : Errno) × (last ≡ answer.Refused errno) × Keeps w w')
     ⊎ ((object : ℕ) × (d : Full) × Calm b d × (d.past.numbers inode ≡ Some object) × (0 < live_count inode d.tables)
-    × Alters w w' (with_changed object (emptied (keeps_set_id plan seat kill)
-    (is_file_kind (slice_get (objects_at w) object) && truncates flags)) (contents_at w))
+    × ClearsSo (includes flags o_trunc) plan.capability w last w' object
+    (emptied_so plan seat kill flags (is_file_kind (slice_get (objects_at w) object)))
     × (includes flags o_directory ≡ true → is_file_kind (slice_get (objects_at w) object) ≡ false))
 
 pub opens_so : (plan : Plan) (session : BegunSession) (inode : ℕ) (kill : Bool) (flags : ℕ) (next : ℕ → RequestTree)
-    (j : Thread) (w b : Full) (last : Answer) (w' : Full) → last ≢ answer.NoMemory → plan.capability ≡ None →
+    (j : Thread) (w b : Full) (last : Answer) (w' : Full) → last ≢ answer.NoMemory →
     ((fd : Fd) (how : OpenFlags) → j.role.lacks (call.Reopen fd how) ≡ fsetid_if (drops_fsetid plan j.seat kill)) →
     ((handle : ℕ) → Leaving (next handle)) → Keeps w b →
     At j (open_num plan j.seat session inode kill flags next) b last w' →
     OpensSo plan j.seat kill flags inode w b last w'
 unfolding open_row
-opens_so plan session inode kill flags next j w b last w' n uncaps lacks leaves kb cb =
+opens_so plan session inode kill flags next j w b last w' n lacks leaves kb cb =
     walk_without j (drops_fsetid plan j.seat kill) opens b last w' n (in_bracket cb) out (λ d bd cd.
     let qd = bared_calm j b d bd in
     walk_resolve j inode _ d last w' n cd (λ r. out (refused_from b d last w' qd.keeps r)) (λ row e re ce.
@@ -227,12 +220,29 @@ opens_so plan session inode kill flags next j w b last w' n uncaps lacks leaves 
     keeps : Bool
     keeps = keeps_set_id plan j.seat kill
 
-    rest : (f : Full) (new : Fd) → At j (bares new) f last w' → Keeps f w'
-    rest f new c = unbare c (λ g bg cg. walk_cleared j (includes flags o_trunc) plan.capability new (handles new) g
-        last w'
-        uncaps cg (λ ch. keeps_on f g w' bg.keeps (left_by j (handles new) g last w'
+    ends : (f g : Full) (new : Fd) → Keeps f g → At j (handles new) g last w' → Keeps f w'
+    ends f g new kg c = keeps_on f g w' kg (left_by j (handles new) g last w'
         (leaving_handled session inode new (λ handle. Shuts false (next handle))
-        (λ handle. leaving_shuts false (leaves handle))) ch)))
+        (λ handle. leaving_shuts false (leaves handle))) c)
+
+    cleared : (b : Bool) (f : Full) (new : Fd) (object : ℕ) (change : ObjectContents → ObjectContents) →
+        Alters w f (with_changed object change (contents_at w)) → IsOpenOn (world_of f).tree new object →
+        At j (cleared_if b plan.capability new (handles new)) f last w' →
+        ClearsSo b plan.capability w last w' object change
+    cleared false f new object change a o c = inr (alters_then w f w' _ a (ends f f new (keeps_none f) c))
+    cleared true f new object change a o c =
+        walk_clear j plan.capability new false (handles new) w f (with_changed object change (contents_at w)) object
+        last w' n o a c (λ r. inl ((r.errno, r.is), alters_then w f w' _ a r.keeps)) (λ y u k.
+        inr (alters_twice w w' object change (uncapped plan.capability)
+        (alters_then w y w' (with_changed object (uncapped plan.capability) (with_changed object change
+        (contents_at w))) u.alters (ends y y new (keeps_none y) k))))
+
+    rest : (f : Full) (new : Fd) (object : ℕ) (change : ObjectContents → ObjectContents) →
+        Alters w f (with_changed object change (contents_at w)) → IsOpenOn (world_of f).tree new object →
+        At j (bares new) f last w' → ClearsSo (includes flags o_trunc) plan.capability w last w' object change
+    rest f new object change a o c = unbare c (λ g bg cg.
+        cleared (includes flags o_trunc) g new object change (alters_then w f g _ a bg.keeps)
+        (subst (λ (t : Tree). IsOpenOn t new object) (sym (ap (λ (v : World). v.tree) bg.world)) o) cg)
 
     reopened : (d e f : Full) (fd new : Fd) (object : ℕ) → Calm b d → Keeps d e → d.past.numbers inode ≡ Some object →
         0 < live_count inode d.tables → IsOpenOn (world_of e).tree fd object →
@@ -253,11 +263,11 @@ opens_so plan session inode kill flags next j w b last w' n uncaps lacks leaves 
         let there : Alters e f (with_changed object
         (so (is_file_kind (slice_get (objects_at w) object) && truncates flags)) (contents_at e)) =
         subst (λ (x : Bool). Alters e f (with_changed object (so x) (contents_at e))) test emptied_by in
-        let all = changed_all j w e f w' fd object (so (is_file_kind (slice_get (objects_at w) object) && truncates
-        flags))
-        qe m.2.made.0.sound o (respects_emptied keeps (is_file_kind (slice_get (objects_at w) object) && truncates
-        flags)) there
-        (rest f new k) in
+        let change = so (is_file_kind (slice_get (objects_at w) object) && truncates flags) in
+        let on = alters_on w e f (contents_at w) object change
+        (within_at w e (contents_at w) fd object qe m.2.made.0.sound o)
+        (respects_emptied keeps (is_file_kind (slice_get (objects_at w) object) && truncates flags)) qe there in
+        let all = rest f new object change on (opened_anew j e f fd new object (without_nofollow flags_in) m o) k in
         inr (
           object,
           d,

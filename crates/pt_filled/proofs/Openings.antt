@@ -3,6 +3,7 @@ use Rattle.std.specs.Prelude.{◌&&◌}
 use Rattle.std.proofs.Common.{inl, inr, ◌≡◌, ◌≢◌, ◌<◌, ℕ, Bool, true, false, Some, None, refl, sym, ap, subst, ◌∙◌}
 use Rattle.std.proofs.Common.{slice_get, ◌==◌}
 use Rattle.std.proofs.lemmas.Nat.{and_or_self}
+use Rattle.pt_host.specs.Contents.{ObjectContents}
 use Rattle.pt_host.specs.Flags.{includes, o_directory, o_trunc}
 use Rattle.pt_host.specs.declared.ids.Errno.{Errno}
 use Rattle.pt_host.specs.declared.ids.Fd.{Fd}
@@ -28,21 +29,20 @@ use Rattle.pt_law.proofs.Givings.{live_count}
 use Rattle.pt_fit.specs.Asker.{fsetid_if, role_in}
 use Rattle.pt_plain.specs.Plain.{PlainTree, OfNumber}
 use Rattle.pt_plain.specs.Serves.{Serves}
-use Rattle.pt_filled.specs.Fills.{Fills, emptied_by, IsOpened, IsOpenedDir}
-use Rattle.pt_filled.specs.Contents.{is_file_kind, keeps_set_id, with_changed, Becomes as BecomesThere, emptied}
-use Rattle.pt_filled.specs.Contents.{truncates}
+use Rattle.pt_filled.specs.Fills.{Fills, IsOpenedDir}
+use Rattle.pt_filled.specs.Contents.{is_file, is_file_kind, with_changed, uncapped_if, Becomes as BecomesThere}
 use Rattle.pt_filled.proofs.Filling.{Between, filled, IsFilledBy, stay, become, file_there, stands_from}
 use Rattle.pt_filled.proofs.Hosting.{Full, Thread, contents_at, Alters, objects_at}
 use Rattle.pt_filled.proofs.Parts.{At, Calm, walk_begin, calm_on, calm_none}
-use Rattle.pt_filled.proofs.Opened.{OpensSo, opens_so, uncapped_so}
+use Rattle.pt_filled.proofs.Opened.{emptied_so, OpensSo, opens_so, with_same}
+use Rattle.pt_filled.proofs.Setting.{keeps_idle}
 
 not_refused : (last : Answer) (errno : Errno) (handle : ℕ) (options : OpenOptions) → last ≡ answer.Refused errno →
     last ≡ answer.Opened handle options → ⊥
 not_refused last errno handle options e f = cc
 
 module _ (plan : Plan) (who : Context) (agreed : Negotiated) (j : Thread) (w : Full) (last : Answer) (w' : Full)
-    (state after : PlainTree) (g : Between w w' state after) (n : last ≢ answer.NoMemory)
-    (uncaps : plan.capability ≡ None) where
+    (state after : PlainTree) (g : Between w w' state after) (n : last ≢ answer.NoMemory) where
   -- where it began, and what it left
   abbrev Opening : ℕ → Bool → ℕ → Type 0
   Opening inode kill flags = (b : Full) × Calm w b × OpensSo plan j.seat kill flags inode w b last w'
@@ -54,7 +54,7 @@ module _ (plan : Plan) (who : Context) (agreed : Negotiated) (j : Thread) (w : F
       walk_begin j opens w last w' n c (λ r. (w, calm_none w, inl (r.errno, r.is, r.keeps))) (λ session b q z k. (
         b,
         q,
-        opens_so plan session inode kill flags ends j w b last w' n uncaps lacks (λ handle. record { by = tt })
+        opens_so plan session inode kill flags ends j w b last w' n lacks (λ handle. record { by = tt })
             q.keeps k,
       ))
     where
@@ -64,18 +64,16 @@ module _ (plan : Plan) (who : Context) (agreed : Negotiated) (j : Thread) (w : F
       opens : BegunSession → RequestTree
       opens session = open_num plan j.seat session inode kill flags ends
 
-  opened_in : (inode object : ℕ) (kill : Bool) (flags : ℕ) (b d : Full) → Calm w b → Calm b d →
-      d.past.numbers inode ≡ Some object → 0 < live_count inode d.tables →
-      Alters w w' (with_changed object (emptied (keeps_set_id plan j.seat kill)
-      (is_file_kind (slice_get (objects_at w) object) && truncates flags)) (contents_at w)) →
-      OfNumber state inode (λ object. BecomesThere (filled state w) object
-      (emptied_by plan j.seat kill flags (filled state w) object) (filled after w'))
-  opened_in inode object kill flags b d q h e l a = (
+  opened_in : (inode object : ℕ) (change : Bool → ObjectContents → ObjectContents) (b d : Full) → Calm w b →
+      Calm b d → d.past.numbers inode ≡ Some object → 0 < live_count inode d.tables →
+      Alters w w' (with_changed object (change (is_file_kind (slice_get (objects_at w) object))) (contents_at w)) →
+      OfNumber state inode (λ object. BecomesThere (filled state w) object (change (is_file (filled state w) object))
+      (filled after w'))
+  opened_in inode object change b d q h e l a = (
     object,
     stands_from w d state inode object g.shows (calm_on w b d q h).quiet e l,
-    become w w' state after _ g.shows (subst (λ (x : Bool). Alters w w' (with_changed object
-        (emptied (keeps_set_id plan j.seat kill) (x && truncates flags)) (contents_at w)))
-        (file_there w state object g.shows) a),
+    become w w' state after _ g.shows (subst (λ (x : Bool). Alters w w' (with_changed object (change x) (contents_at
+        w))) (file_there w state object g.shows) a),
   )
 
   pub fills_open : (inode : ℕ) (kill : Bool) (flags : ℕ) →
@@ -89,26 +87,24 @@ module _ (plan : Plan) (who : Context) (agreed : Negotiated) (j : Thread) (w : F
       asked : Request
       asked = request.Open inode kill flags
 
-      emptied_there : (b d : Full) (object : ℕ) → Calm w b → Calm b d → d.past.numbers inode ≡ Some object →
-          0 < live_count inode d.tables → Alters w w' (with_changed object (emptied (keeps_set_id plan j.seat kill)
-          (is_file_kind (slice_get (objects_at w) object) && truncates flags)) (contents_at w)) →
-          OfNumber state inode (λ object. IsOpened plan j.seat kill flags (filled state w) object (filled after w'))
-      emptied_there b d object q h e l a =
-          let k = opened_in inode object kill flags b d q h e l a in (
-            k.0,
-            k.1,
-            uncapped_so (includes flags o_trunc) plan.capability (filled state w) k.0
-                (emptied_by plan j.seat kill flags (filled state w) k.0) (filled after w') uncaps k.2,
-          )
+      whole : Bool → ObjectContents → ObjectContents
+      whole file was =
+          uncapped_if (includes flags o_trunc) plan.capability (emptied_so plan j.seat kill flags file was)
 
       answered : (told : Answer) → last ≡ told → Serves plan asked state told after → Opening inode kill flags →
           Fills plan j.seat who asked (filled state w) told (filled after w')
       answered (answer.Refused errno) e v (b, q, inl r) = inl (stay w w' state after g.shows r.2)
-      answered (answer.Refused errno) e v (b, q, inr o) =
-          let k = emptied_there b o.1 o.0 q o.2 o.3 o.4 o.5 in inr (k.0, k.1, inr k.2)
+      answered (answer.Refused errno) e v (b, q, inr (object, d, h, is, live, inl z, dir)) =
+          let k = opened_in inode object (emptied_so plan j.seat kill flags) b d q h is live z.1 in
+          inr (k.0, k.1, inl k.2)
+      answered (answer.Refused errno) e v (b, q, inr (object, d, h, is, live, inr z, dir)) =
+          let k = opened_in inode object whole b d q h is live z in inr (k.0, k.1, inr k.2)
       answered (answer.Opened handle options) e v (b, q, inl r) =
           absurd (not_refused last r.0 handle options r.1 e)
-      answered (answer.Opened handle options) e v (b, q, inr o) = emptied_there b o.1 o.0 q o.2 o.3 o.4 o.5
+      answered (answer.Opened handle options) e v (b, q, inr (object, d, h, is, live, inl z, dir)) =
+          absurd (not_refused last z.0.0 handle options z.0.1 e)
+      answered (answer.Opened handle options) e v (b, q, inr (object, d, h, is, live, inr z, dir)) =
+          opened_in inode object whole b d q h is live z
       answered told e v o = absurd v
 
       by_opening : Opening inode kill flags → IsFilledBy plan j.seat who asked state w last after w'
@@ -136,9 +132,23 @@ module _ (plan : Plan) (who : Context) (agreed : Negotiated) (j : Thread) (w : F
       no_caps true c = refl
       no_caps false c = refl
 
+      same_trunc : includes how o_trunc ≡ includes flags o_trunc
+      same_trunc = ap (λ (n : ℕ). n == o_trunc) (with_same flags o_directory o_trunc refl)
+
+      -- a directory is no file
+      on_dir : (object : ℕ) → is_file_kind (slice_get (objects_at w) object) ≡ false →
+          (change : (ObjectContents → ObjectContents) → ObjectContents → ObjectContents) →
+          Alters w w' (with_changed object (change (emptied_so plan j.seat false how (is_file_kind (slice_get
+          (objects_at w) object)))) (contents_at w)) →
+          Alters w w' (with_changed object (change (λ was. was)) (contents_at w))
+      on_dir object dir change a =
+          subst (λ (x : Bool). Alters w w' (with_changed object (change (emptied_so plan j.seat false how x))
+          (contents_at w))) dir a
+
       opened_there : (b d : Full) (object : ℕ) → Calm w b → Calm b d → d.past.numbers inode ≡ Some object →
-          0 < live_count inode d.tables → Alters w w' (with_changed object (emptied (keeps_set_id plan j.seat false)
-          (is_file_kind (slice_get (objects_at w) object) && truncates how)) (contents_at w)) →
+          0 < live_count inode d.tables → Alters w w' (with_changed object (λ was. uncapped_if (includes how o_trunc)
+          plan.capability (emptied_so plan j.seat false how (is_file_kind (slice_get (objects_at w) object)) was))
+          (contents_at w)) →
           is_file_kind (slice_get (objects_at w) object) ≡ false →
           OfNumber state inode (λ object. IsOpenedDir plan flags (filled state w) object (filled after w'))
       opened_there b d object q h e l a dir = (
@@ -146,19 +156,23 @@ module _ (plan : Plan) (who : Context) (agreed : Negotiated) (j : Thread) (w : F
         stands_from w d state inode object g.shows (calm_on w b d q h).quiet e l,
         (
           sym (file_there w state object g.shows) ∙ dir,
-          uncapped_so (includes flags o_trunc) plan.capability (filled state w) object (λ was. was) (filled after w')
-              uncaps (become w w' state after _ g.shows (subst (λ (x : Bool). Alters w w' (with_changed object
-              (emptied (keeps_set_id plan j.seat false) (x && truncates how)) (contents_at w))) dir a)),
+          become w w' state after _ g.shows (subst (λ (x : Bool). Alters w w' (with_changed object
+              (uncapped_if x plan.capability) (contents_at w))) same_trunc
+              (on_dir object dir (λ f was. uncapped_if (includes how o_trunc) plan.capability (f was)) a)),
         ),
       )
 
       answered : (told : Answer) → last ≡ told → Serves plan asked state told after → Opening inode false how →
           Fills plan j.seat who asked (filled state w) told (filled after w')
       answered (answer.Refused errno) e v (b, q, inl r) = inl (stay w w' state after g.shows r.2)
-      answered (answer.Refused errno) e v (b, q, inr o) =
-          inr (opened_there b o.1 o.0 q o.2 o.3 o.4 o.5 (o.6 asks))
+      answered (answer.Refused errno) e v (b, q, inr (object, d, h, is, live, inl z, dir)) =
+          inl (stay w w' state after g.shows (keeps_idle w w' object (on_dir object (dir asks) (λ f. f) z.1)))
+      answered (answer.Refused errno) e v (b, q, inr (object, d, h, is, live, inr z, dir)) =
+          inr (opened_there b d object q h is live z (dir asks))
       answered (answer.Opened handle options) e v (b, q, inl r) =
           absurd (not_refused last r.0 handle options r.1 e)
-      answered (answer.Opened handle options) e v (b, q, inr o) =
-          opened_there b o.1 o.0 q o.2 o.3 o.4 o.5 (o.6 asks)
+      answered (answer.Opened handle options) e v (b, q, inr (object, d, h, is, live, inl z, dir)) =
+          absurd (not_refused last z.0.0 handle options z.0.1 e)
+      answered (answer.Opened handle options) e v (b, q, inr (object, d, h, is, live, inr z, dir)) =
+          opened_there b d object q h is live z (dir asks)
       answered told e v o = absurd v

@@ -1,8 +1,7 @@
 -- Proof. `setattr`: the attributes one after another.
 use Rattle.std.specs.Prelude.{if◌then◌else◌}
-use Rattle.std.proofs.Common.{◌≡◌, ◌≢◌, ◌<◌, ℕ, List, length, Bool, true, false, Option, Some, None, refl, sym, ap}
-use Rattle.std.proofs.Common.{subst, ◌∙◌, slice_get, ⊎_elim, ◌%◌}
-use Rattle.std.proofs.lemmas.Bool.{cases_eq}
+use Rattle.std.proofs.Common.{◌≡◌, ◌≢◌, ◌<◌, ℕ, List, Bool, true, false, Option, Some, None, refl, sym, ap}
+use Rattle.std.proofs.Common.{subst, ◌∙◌, slice_get, ◌%◌}
 use Rattle.pt_host.specs.Contents.{ObjectContents}
 use Rattle.pt_host.specs.Tree.{Tree, Object, IsOpenOn}
 use Rattle.pt_host.specs.Flags.{includes, o_path}
@@ -35,24 +34,22 @@ use Rattle.pt_attr.specs.Setting.{cut_if, do_if, file_set, opens_anew, own_if, s
 use Rattle.pt_attr.specs.Steps.{do_call}
 use Rattle.pt_law.specs.World.{World, fd_of}
 use Rattle.pt_law.specs.Under.{seat_lacking}
-use Rattle.pt_law.proofs.Lists.{set_at_same, set_at_other}
+use Rattle.pt_law.proofs.Lists.{set_at_same}
 use Rattle.pt_law.proofs.Knowing.{one_object}
 use Rattle.pt_fit.specs.Asker.{fsetid_if}
 use Rattle.pt_rules.specs.Beside.{MayTouch}
 use Rattle.pt_rules.specs.ContentCalls.{resized}
-use Rattle.pt_rules.specs.Sound.{IsSound}
 use Rattle.pt_plain.proofs.Stilling.{IsStill}
 use Rattle.pt_plain.proofs.Walking.{Quiet, quiet_none, quiet_on}
-use Rattle.pt_filled.specs.Contents.{IsSame, is_file_kind, keeps_set_id, with_changed, uncapped_if, owned_as}
+use Rattle.pt_filled.specs.Contents.{IsSame, is_file_kind, keeps_set_id, with_changed, uncapped, uncapped_if, owned_as}
 use Rattle.pt_filled.specs.Contents.{refilled}
 use Rattle.pt_filled.proofs.Hosting.{Full, Keeps, Thread, contents_at, world_of, Alters, Bared, alters_on}
 use Rattle.pt_filled.proofs.Hosting.{alters_then, objects_at}
 use Rattle.pt_filled.proofs.Parts.{At, Calm, IsRefused, comes_at, refused_from, bared_calm, calm_on, unbare, walk_do}
 use Rattle.pt_filled.proofs.Parts.{walk_reopen, walk_unless, calm_goes, quiet_makes, refused_with, walk_file}
 use Rattle.pt_filled.proofs.Threading.{Makes, comes_law}
-use Rattle.pt_filled.proofs.Filling.{open_within}
-use Rattle.pt_filled.proofs.Writing.{keeps_by, walk_uncapped, walk_without}
-use Rattle.pt_filled.proofs.Clearing.{alters_idle, idle_at, within_at}
+use Rattle.pt_filled.proofs.Writing.{keeps_by, walk_without}
+use Rattle.pt_filled.proofs.Clearing.{alters_idle, Cleared, idle_at, walk_clear, within_at}
 use Rattle.pt_filled.proofs.Effects.{was_moded, was_owned, was_sized, was_timed}
 
 pub still_mode : (fd : Fd) (through : Bool) (mode : ℕ) (told : ActReply) → IsStill (Calls (call.ChMod fd through
@@ -77,21 +74,13 @@ still_times fd through atime mtime (Host told) = tt
 still_times fd through atime mtime (Event told) = tt
 still_times fd through atime mtime NoCopy = tt
 
-keeps_idle : (w x : Full) (object : ℕ) → Alters w x (with_changed object (λ was. was) (contents_at w)) → Keeps w x
+pub keeps_idle : (w x : Full) (object : ℕ) → Alters w x (with_changed object (λ was. was) (contents_at w)) → Keeps w x
 keeps_idle w x object a = record {
   objects = a.objects;
   same = λ other l. subst (λ (c : ObjectContents). IsSame c (contents_at x other)) (idle_at object (contents_at w)
       other)
       (a.same other l);
 }
-
--- where no rule gives the attribute of capabilities another name
-pub alters_uncapped : (w x : Full) (are : ℕ → ObjectContents) (object : ℕ) (b : Bool) (name : Option (List ℕ)) →
-    name ≡ None → Alters w x are → Alters w x (with_changed object (uncapped_if b name) are)
-alters_uncapped w x are object true name e a =
-    subst (λ (name : Option (List ℕ)). Alters w x (with_changed object (uncapped_if true name) are)) (sym e)
-    (alters_idle w x are object a)
-alters_uncapped w x are object false name e a = alters_idle w x are object a
 
 -- from one world to a later one, in which what was open is so, and contents are these
 pub record Reaches (w x y : Full) (are : ℕ → ObjectContents) : Type 0 where
@@ -130,28 +119,36 @@ owned_if b uid gid was = if b then owned_as uid gid was else was
 
 pub walk_owner : {G : Type 0} (b : Bool) (j : Thread) (name : Option (List ℕ)) (fd : Fd) (uid gid : Option ℕ)
     (next : RequestTree) (w x : Full) (are : ℕ → ObjectContents) (object : ℕ) (last : Answer) (w' : Full) →
-    last ≢ answer.NoMemory → name ≡ None → IsOpenOn (world_of x).tree fd object → Alters w x are →
+    last ≢ answer.NoMemory → IsOpenOn (world_of x).tree fd object → Alters w x are →
     At j (own_if b name fd uid gid next) x last w' → (IsRefused x last w' → G) →
-    ((y : Full) → Reaches w x y (with_changed object (owned_if b uid gid) are) → At j next y last w' → G) → G
-walk_owner false j name fd uid gid next w x are object last w' n z o a c out goes =
-    goes x (reaches_none w x (with_changed object (λ was. was) are) (alters_idle w x are object a)) c
-walk_owner true j name fd (Some uid) (Some gid) next w x are object last w' n z o a c out goes =
-    walk_uncapped j name fd true _ x last w' z c (λ c.
-    walk_do j (call.ChOwn fd uid gid) next x last w' n (λ told e. still_owner fd uid gid told) c out
-    (λ told y m cy. goes y (record {
-      tree = m.2.goes.made.0.0.trees.changes.1;
-      quiet = quiet_makes j x y (Calls (call.ChOwn fd uid gid)) _ m tt tt;
-      alters = alters_on w x y are object (owned_if true (Some uid) (Some gid))
-          (within_at w x are fd object a m.2.made.0.sound o)
+    ((y : Full) → Alters w y (with_changed object (uncapped_if b name) are) → IsRefused y last w' → G) →
+    ((y : Full) → Reaches w x y (with_changed object (owned_if b uid gid) (with_changed object (uncapped_if b name)
+    are)) → At j next y last w' → G) → G
+walk_owner false j name fd uid gid next w x are object last w' n o a c out behind goes =
+    let idle = alters_idle w x are object a in
+    goes x (reaches_none w x (with_changed object (λ was. was) (with_changed object (λ was. was) are))
+    (alters_idle w x (with_changed object (λ was. was) are) object idle)) c
+walk_owner true j name fd (Some uid) (Some gid) next w x are object last w' n o a c out behind goes =
+    walk_clear j name fd true _ w x are object last w' n o a c out (λ y u c.
+    let oy = subst (λ (t : Tree). IsOpenOn t fd object) (sym u.tree) o in
+    let bare : ℕ → ObjectContents = with_changed object (uncapped name) are in
+    walk_do j (call.ChOwn fd uid gid) next y last w' n (λ told e. still_owner fd uid gid told) c
+    (λ r. behind y u.alters r)
+    (λ told z m cz. goes z (record {
+      tree = m.2.goes.made.0.0.trees.changes.1 ∙ u.tree;
+      quiet = quiet_on (world_of x) (world_of y) (world_of z) u.quiet
+          (quiet_makes j y z (Calls (call.ChOwn fd uid gid)) _ m tt tt);
+      alters = alters_on w y z bare object (owned_if true (Some uid) (Some gid))
+          (within_at w y bare fd object u.alters m.2.made.0.sound oy)
           (λ p q e. ap (λ (z : ObjectContents). record (owned_if true (Some uid) (Some gid) z) {
             atime = q.atime;
             mtime = q.mtime;
             ctime = q.ctime;
-          }) e) a (was_owned j x y fd uid gid told object m.2 o);
-    }) cy))
-walk_owner true j name fd (Some uid) None next w x are object last w' n z o a c out goes =
+          }) e) u.alters (was_owned j y z fd uid gid told object m.2 oy);
+    }) cz))
+walk_owner true j name fd (Some uid) None next w x are object last w' n o a c out behind goes =
     out (refused_with j x eperm last w' (comes_at c))
-walk_owner true j name fd None gid next w x are object last w' n z o a c out goes =
+walk_owner true j name fd None gid next w x are object last w' n o a c out behind goes =
     out (refused_with j x eperm last w' (comes_at c))
 
 abbrev pub sized_if : Bool → Bool → Bool → ℕ → ObjectContents → ObjectContents
@@ -159,20 +156,26 @@ sized_if b keeps file size was = if b then refilled keeps file (resized size was
 
 pub walk_size : {G : Type 0} (b : Bool) (plan : Plan) (kill : Bool) (j : Thread) (name : Option (List ℕ)) (fd : Fd)
     (size : ℕ) (next : RequestTree) (w x : Full) (are : ℕ → ObjectContents) (target : ℕ) (last : Answer) (w' : Full) →
-    last ≢ answer.NoMemory → name ≡ None →
+    last ≢ answer.NoMemory →
     j.role.lacks (call.Truncate fd size) ≡ fsetid_if (drops_fsetid plan j.seat kill) →
     IsOpenOn (world_of x).tree fd target → Alters w x are →
     At j (cut_if b (drops_fsetid plan j.seat kill) name fd size next) x last w' → (IsRefused x last w' → G) →
+    ((y : Full) → Alters w y (with_changed target (uncapped_if b name) are) → IsRefused y last w' → G) →
     ((y : Full) → Reaches w x y (with_changed target (sized_if b (keeps_set_id plan j.seat kill)
-    (is_file_kind (slice_get (objects_at w) target)) size) are) → At j next y last w' → G) → G
-walk_size false plan kill j name fd size next w x are target last w' n z lacks o a c out goes =
-    goes x (reaches_none w x (with_changed target (λ was. was) are) (alters_idle w x are target a)) c
-walk_size true plan kill j name fd size next w x are target last w' n z lacks o a c out goes =
+    (is_file_kind (slice_get (objects_at w) target)) size) (with_changed target (uncapped_if b name) are)) →
+    At j next y last w' → G) → G
+walk_size false plan kill j name fd size next w x are target last w' n lacks o a c out behind goes =
+    let idle = alters_idle w x are target a in
+    goes x (reaches_none w x (with_changed target (λ was. was) (with_changed target (λ was. was) are))
+    (alters_idle w x (with_changed target (λ was. was) are) target idle)) c
+walk_size true plan kill j name fd size next w x are target last w' n lacks o a c out behind goes =
     walk_without j (drops_fsetid plan j.seat kill) clears x last w' n c out (λ d bd cd.
-    walk_uncapped j name fd false sizes d last w' z cd (λ cd.
-    walk_do j (call.Truncate fd size) (Bares next) d last w' n (λ told e. still_size fd size told) cd
-    (λ r. out (refused_from x d last w' bd.keeps r)) (λ told e m ce.
-    unbare ce (λ y by' cy. goes y (reached d e y told bd m by') cy))))
+    let od = subst (λ (t : Tree). IsOpenOn t fd target) (sym (ap (λ (v : World). v.tree) bd.world)) o in
+    walk_clear j name fd false sizes w d are target last w' n od (alters_then w x d are a bd.keeps) cd
+    (λ r. out (refused_from x d last w' bd.keeps r)) (λ v u cv.
+    walk_do j (call.Truncate fd size) (Bares next) v last w' n (λ told e. still_size fd size told) cv
+    (λ r. behind v u.alters r) (λ told e m ce.
+    unbare ce (λ y by' cy. goes y (reached d v e y told bd u m by') cy))))
     (comes_law j (without_fsetid (drops_fsetid plan j.seat kill) clears) x last w' (comes_at c))
   where
     sizes : RequestTree
@@ -184,32 +187,33 @@ walk_size true plan kill j name fd size next w x are target last w' n z lacks o 
     keeps : Bool
     keeps = keeps_set_id plan j.seat kill
 
-    reached : (d e y : Full) (told : HostValue) → Bared j x d →
-        Makes j d (Calls (call.Truncate fd size)) (Host (host.Ok told)) e → Bared j e y →
+    reached : (d v e y : Full) (told : HostValue) → Bared j x d → Cleared w d v target name are →
+        Makes j v (Calls (call.Truncate fd size)) (Host (host.Ok told)) e → Bared j e y →
         Reaches w x y (with_changed target (sized_if true keeps (is_file_kind (slice_get (objects_at w) target)) size)
-        are)
-    reached d e y told bd m by' =
+        (with_changed target (uncapped name) are))
+    reached d v e y told bd u m by' =
         let od = subst (λ (t : Tree). IsOpenOn t fd target) (sym (ap (λ (v : World). v.tree) bd.world)) o in
-        let by_seat = subst (λ (z : Option Caps). d.seat ≡ seat_lacking z j.seat) lacks m.2.as_asked in
-        let was = was_sized j d e fd size told target keeps m.2 od (keeps_by plan j.seat d.seat kill by_seat) in
-        let file = ap (λ (z : List Object). is_file_kind (slice_get z target)) (bd.keeps.objects ∙ a.objects) in
-        let so : Alters d e (with_changed target (sized_if true keeps (is_file_kind (slice_get (objects_at w) target))
+        let ov = subst (λ (t : Tree). IsOpenOn t fd target) (sym u.tree) od in
+        let by_seat = subst (λ (z : Option Caps). v.seat ≡ seat_lacking z j.seat) lacks m.2.as_asked in
+        let was = was_sized j v e fd size told target keeps m.2 ov (keeps_by plan j.seat v.seat kill by_seat) in
+        let file = ap (λ (z : List Object). is_file_kind (slice_get z target)) u.alters.objects in
+        let so : Alters v e (with_changed target (sized_if true keeps (is_file_kind (slice_get (objects_at w) target))
         size)
-        (contents_at d)) =
-        subst (λ (f : Bool). Alters d e (with_changed target (sized_if true keeps f size) (contents_at d))) file was in
-        let al = alters_then w x d are a bd.keeps in
-        let whole = alters_on w d e are target (sized_if true keeps (is_file_kind (slice_get (objects_at w) target))
-        size)
-        (within_at w d are fd target al m.2.made.0.sound od)
+        (contents_at v)) =
+        subst (λ (f : Bool). Alters v e (with_changed target (sized_if true keeps f size) (contents_at v))) file was in
+        let whole = alters_on w v e (with_changed target (uncapped name) are) target
+        (sized_if true keeps (is_file_kind (slice_get (objects_at w) target)) size)
+        (within_at w v (with_changed target (uncapped name) are) fd target u.alters m.2.made.0.sound ov)
         (λ p q z. ap (λ (c : ObjectContents). record (sized_if true keeps (is_file_kind (slice_get (objects_at w)
         target))
-        size c) { atime = q.atime; mtime = q.mtime; ctime = q.ctime }) z) al so in
+        size c) { atime = q.atime; mtime = q.mtime; ctime = q.ctime }) z) u.alters so in
         record {
-          tree = ap (λ (v : World). v.tree) by'.world ∙ m.2.goes.made.0.0.trees.changes.1
+          tree = ap (λ (v : World). v.tree) by'.world ∙ m.2.goes.made.0.0.trees.changes.1 ∙ u.tree
               ∙ ap (λ (v : World). v.tree) bd.world;
           quiet = quiet_on (world_of x) (world_of d) (world_of y) (bared_calm j x d bd).quiet
-              (quiet_on (world_of d) (world_of e) (world_of y)
-              (quiet_makes j d e (Calls (call.Truncate fd size)) _ m tt tt) (bared_calm j e y by').quiet);
+              (quiet_on (world_of d) (world_of v) (world_of y) u.quiet
+              (quiet_on (world_of v) (world_of e) (world_of y)
+              (quiet_makes j v e (Calls (call.Truncate fd size)) _ m tt tt) (bared_calm j e y by').quiet));
           alters = alters_then w e y _ whole by'.keeps;
         }
 

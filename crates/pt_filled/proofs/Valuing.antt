@@ -5,8 +5,7 @@ use Rattle.std.specs.Map.{update}
 use Rattle.std.specs.Str.{bytes_eq}
 use Rattle.std.proofs.Common.{[], ◌∷◌, ◌≡◌, ◌≢◌, ℕ, List, Bool, true, false, Option, Some, None, refl, sym, ap, subst}
 use Rattle.std.proofs.Common.{◌∙◌, Result, Ok, Err, ◌==◌, is_none, is_some, inl, length, nat_lt, ◌%◌, ◌<◌}
-use Rattle.std.proofs.Common.{arith, inr, ⊎_elim}
-use Rattle.std.proofs.lemmas.Bool.{cases_eq}
+use Rattle.std.proofs.Common.{arith, inr}
 use Rattle.pt_host.specs.Contents.{ObjectContents}
 use Rattle.pt_host.specs.Errno.{e2big, ebadf, eexist, einval, enodata, enosys, erange}
 use Rattle.pt_host.specs.Tree.{IsOpenOn, Tree, Object}
@@ -39,7 +38,7 @@ use Rattle.pt_xattr.specs.Parts.{allowed, kills_sgid, nul_free, sgid_killed, wit
 use Rattle.pt_xattr.specs.Requests.{setxattr}
 use Rattle.pt_xattr.specs.declared.parts.XattrFile.{XattrFile}
 use Rattle.pt_law.specs.World.{fd_of, made}
-use Rattle.pt_law.proofs.Lists.{set_at_same, set_at_other}
+use Rattle.pt_law.proofs.Lists.{set_at_same}
 use Rattle.pt_node.specs.Attributes.{value_of, with_value}
 use Rattle.pt_node.specs.Limits.{xattr_name_max, xattr_value_max}
 use Rattle.pt_node.specs.Opening.{first_refusal}
@@ -57,9 +56,9 @@ use Rattle.pt_filled.specs.Fills.{Fills, IsFit}
 use Rattle.pt_filled.specs.Told.{name_held}
 use Rattle.pt_filled.proofs.Clearing.{alters_idle, alters_twice, walk_clear, within_at}
 use Rattle.pt_filled.proofs.Effects.{was_moded, was_seen, objects_still, ok_has, rowed, row_there, same_parts}
-use Rattle.pt_filled.proofs.Hosting.{Keeps, world_of, Alters, Full, Steps, Thread, alters_on, alters_then}
+use Rattle.pt_filled.proofs.Hosting.{world_of, Alters, Full, Steps, Thread, alters_on, alters_then}
 use Rattle.pt_filled.proofs.Hosting.{contents_at}
-use Rattle.pt_filled.proofs.Parts.{keeps_on, leaves_keeps, walk_stat, At, IsRefused, comes_at, idles_calm}
+use Rattle.pt_filled.proofs.Parts.{leaves_keeps, walk_stat, At, IsRefused, comes_at, idles_calm}
 use Rattle.pt_filled.proofs.Parts.{refused_from, refused_with, walk_begin, walk_do, walk_if, walk_unless}
 use Rattle.pt_filled.proofs.Setting.{still_mode}
 use Rattle.pt_filled.proofs.Tails.{stat_leaves}

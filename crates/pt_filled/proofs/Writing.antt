@@ -140,13 +140,6 @@ was_allocated j w on fd mode offset size told object s o =
     r_effect s mode end node = if lengthens mode (size_of node.content) end
         then Becomes (rewritten (time_of s) (padded end (bytes_in node.content)) node) else Stays
 
--- no other name of the attribute by which a file has capabilities
-pub walk_uncapped : {G : Type 0} (j : Thread) (name : Option (List ℕ)) (fd : Fd) (through : Bool) (next : RequestTree)
-    (w : Full) (last : Answer) (w' : Full) → name ≡ None → At j (capability_cleared name fd through next) w last w' →
-    (At j next w last w' → G) → G
-walk_uncapped j None fd through next w last w' e c goes = goes c
-walk_uncapped j (Some name) fd through next w last w' e c goes = absurd (cc)
-
 respects_length : (file : Bool) (mode end : ℕ) → Respects (lengthened file mode end)
 respects_length file mode end x y e = by_test (lengthens mode (length x.bytes) end) refl
   where

@@ -6,20 +6,12 @@ use Rattle.pt_iface.specs.declared.request.Request.TheVariants as request
 use Rattle.pt_req.specs.declared.plan.Plan.{Plan}
 use Rattle.pt_job.specs.Pattern.{Asked, Requests, Edits}
 
--- no rule gives the attribute by which a file has capabilities another name, so the host's kernel sees to them
-abbrev pub LeavesCapabilities : Plan → Type 0
-LeavesCapabilities plan = plan.capability ≡ None
-
 -- the guest brings no context of security for what it makes
 abbrev pub BringsNone : Extensions → Type 0
 BringsNone ext = ext.secctx ≡ None
 
 abbrev pub IsFilledRequest : Plan → Request → Type 0
-IsFilledRequest plan (request.Open inode kill flags) = LeavesCapabilities plan
-IsFilledRequest plan (request.OpenDir inode flags) = LeavesCapabilities plan
-IsFilledRequest plan (request.Create parent name mode kill flags umask ext) =
-    BringsNone ext × LeavesCapabilities plan
-IsFilledRequest plan (request.SetAttr inode handle valid attr) = LeavesCapabilities plan
+IsFilledRequest plan (request.Create parent name mode kill flags umask ext) = BringsNone ext
 IsFilledRequest plan (request.Mkdir parent name mode umask ext) = BringsNone ext
 IsFilledRequest plan (request.Mknod parent name mode rdev umask ext) = BringsNone ext
 IsFilledRequest plan (request.Symlink target parent name ext) = BringsNone ext
