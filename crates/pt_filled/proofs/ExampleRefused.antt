@@ -1,6 +1,6 @@
 -- Proof. Answers and contents that the plain file system refuses.
 use Rattle.std.proofs.Common.{◌≡◌, ◌≢◌, ◌<◌, ℕ, List, [], ◌∷◌, length, Bool, true, false, Option, Some, None, sym, ap}
-use Rattle.std.proofs.Common.{◌∙◌, arith, slice_get}
+use Rattle.std.proofs.Common.{◌∙◌, arith, is_some, slice_get}
 use Rattle.pt_host.specs.Contents.{ObjectContents}
 use Rattle.pt_host.specs.Tree.{Object}
 use Rattle.pt_host.specs.declared.ids.Errno.{Errno}
@@ -95,6 +95,16 @@ module _ (plan : Plan) (seat : HostSeat) (who : Context) (state after : FilledTr
       number_in : Option Numbered → ℕ
       number_in None = 0
       number_in (Some it) = it.object
+
+  -- an attribute that is taken from where there is none
+  none_taken : (inode : ℕ) (name : List ℕ) →
+      ((object : ℕ) (held : List ℕ) → (state.contents object).xattrs held ≡ None) →
+      Fills plan seat who (request.RemoveXattr inode name) state answer.Done after → ⊥
+  none_taken inode name bare f =
+      clash (sym (ap (λ (value : Option (List ℕ)). is_some value) (bare f.0 f.2.0)) ∙ f.2.2.0)
+    where
+      clash : false ≡ true → ⊥
+      clash e = cc
 
   -- a refused `getattr` that changes what a file holds
   refused_changes : (inode object : ℕ) (errno : Errno) → object < length state.plain.tree.objects →
