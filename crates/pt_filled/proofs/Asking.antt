@@ -124,14 +124,14 @@ module _ (plan : Plan) (who : Context) (agreed : Negotiated) (j : Thread) (w : F
       refused_all plan j.seat who (request.Init capable) w w' state after last g (not_served c)
   fills_in_session request.Destroy f r a v c =
       refused_all plan j.seat who request.Destroy w w' state after last g (not_served c)
-  fills_in_session request.Root f r a v c = fills_root plan who j w last w' state after g c
+  fills_in_session request.Root f r a v c = fills_root plan who j w last w' state after g v c
   fills_in_session (request.Forget inode count) f r a v c = fills_forget plan who j w last w' state after g inode
-      count c
-  fills_in_session (request.BatchForget list) f r a v c = fills_batch_forget plan who j w last w' state after g list c
+      count v c
+  fills_in_session (request.BatchForget list) f r a v c = fills_batch_forget plan who j w last w' state after g list v c
   fills_in_session (request.Release inode handle) f r a v c =
-      fills_release plan who j w last w' state after g inode handle c
+      fills_release plan who j w last w' state after g inode handle v c
   fills_in_session (request.ReleaseDir inode handle) f r a v c =
-      fills_release_dir plan who j w last w' state after g inode handle c
+      fills_release_dir plan who j w last w' state after g inode handle v c
   fills_in_session (request.Lookup parent name) f r a v c =
       fills_lookup plan who j w last w' state after g n parent name v c
   fills_in_session (request.Link inode newparent newname) f r a v c =
@@ -169,24 +169,24 @@ module _ (plan : Plan) (who : Context) (agreed : Negotiated) (j : Thread) (w : F
   fills_in_session (request.GetAttr inode) f r a v c = fills_getattr plan who j w last w' state after g n inode c
   fills_in_session (request.Access inode mask) f r a v c = fills_access plan who j w last w' state after g n inode
       mask c
-  fills_in_session (request.SyncFs inode) f r a v c = fills_syncfs plan who j w last w' state after g inode c
+  fills_in_session (request.SyncFs inode) f r a v c = fills_syncfs plan who j w last w' state after g inode v c
   fills_in_session (request.Read inode handle size offset) f r a v c =
       fills_read plan who j w last w' state after g n inode handle size offset c
   fills_in_session (request.Write inode handle offset bytes delayed kill flags) f r a v c =
       fills_write plan who agreed j w last w' state after g n inode handle offset bytes delayed kill flags r c
   fills_in_session (request.Flush inode handle) f r a v c = fills_flush plan who j w last w' state after g inode
-      handle c
+      handle v c
   fills_in_session (request.Fsync inode handle datasync) f r a v c =
-      fills_fsync plan who j w last w' state after g inode handle datasync c
+      fills_fsync plan who j w last w' state after g inode handle datasync v c
   fills_in_session (request.FsyncDir inode handle datasync) f r a v c =
-      fills_fsync_dir plan who j w last w' state after g inode handle datasync c
+      fills_fsync_dir plan who j w last w' state after g inode handle datasync v c
   fills_in_session (request.Fallocate inode handle mode offset size) f r a v c =
       fills_fallocate plan who agreed j w last w' state after g n inode handle mode offset size c
   fills_in_session (request.Lseek inode handle offset whence) f r a v c =
       fills_lseek plan who j w last w' state after g n inode handle offset whence c
   fills_in_session (request.CopyFileRange inode handle offset inode2 handle2 offset2 size flags) f r a v c =
       fills_copy plan who agreed j w last w' state after g n inode handle offset inode2 handle2 offset2 size flags r c
-  fills_in_session (request.Other opcode) f r a v c = fills_unserved plan who j w last w' state after g opcode c
+  fills_in_session (request.Other opcode) f r a v c = fills_unserved plan who j w last w' state after g opcode v c
   fills_in_session asked f r a v c = absurd f
 
 -- a job of a request
@@ -197,10 +197,10 @@ pub fills_request : (plan : Plan) (who : Context) (asked : Request) (j : Thread)
     Belongs (grammar_of_tree j.seat (tree_of plan j.seat who asked)) steps (finish.Answer last) → Walks j w steps w' →
     IsFilledBy plan j.seat who asked state w last after w'
 fills_request plan who (request.Init capable) j w steps last w' state after g n f r v b k =
-    fills_init plan who j w last w' state after g capable (by (comes j j.seat (init plan capable) [] [] w steps last
+    fills_init plan who j w last w' state after g capable v (by (comes j j.seat (init plan capable) [] [] w steps last
     w' n b k))
 fills_request plan who request.Destroy j w steps last w' state after g n f r v b k =
-    fills_destroy plan who j w last w' state after g (by (comes j j.seat destroy [] [] w steps last w' n b k))
+    fills_destroy plan who j w last w' state after g v (by (comes j j.seat destroy [] [] w steps last w' n b k))
 fills_request plan who asked j w steps last w' state after g n f r v b k =
     elim (begun j j.seat (in_session plan j.seat who asked) w steps last w' n b k) [
       | inl a ↦ fills_in_session plan who (agreed_in steps) j w last w' state after g n asked f r a v

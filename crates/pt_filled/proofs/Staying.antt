@@ -27,6 +27,7 @@ use Rattle.pt_req.specs.declared.plan.Config.{Config}
 use Rattle.pt_req.specs.declared.plan.Plan.{Plan}
 use Rattle.pt_attr.specs.Contents.{flush, fsync, syncfs}
 use Rattle.pt_plain.specs.Plain.{PlainTree}
+use Rattle.pt_plain.specs.Serves.{Serves}
 use Rattle.pt_plain.proofs.Stilling.{IsStill}
 use Rattle.pt_filled.specs.Contents.{AllStay, FilledTree}
 use Rattle.pt_filled.specs.Fills.{Fills}
@@ -118,133 +119,154 @@ module _ (plan : Plan) (who : Context) (j : Thread) (w : Full) (last : Answer) (
     (g : Between w w' state after) where
   -- all stays, however it is answered
   pub stays_by : (asked : Request) (tree : RequestTree) →
-      ((told : Answer) (before later : FilledTree) → AllStay before later → Fills plan j.seat who asked before told
-      later) →
-      Leaving tree → At j tree w last w' → IsFilledBy plan j.seat who asked state w last after w'
-  stays_by asked tree f t c =
-      f last (filled state w) (filled after w') (stay w w' state after g.shows (left_by j tree w last w' t c))
+      ((told : Answer) → Serves plan asked state told after → (before later : FilledTree) → AllStay before later →
+      Fills plan j.seat who asked before told later) →
+      Leaving tree → Serves plan asked state last after → At j tree w last w' →
+      IsFilledBy plan j.seat who asked state w last after w'
+  stays_by asked tree f t v c =
+      f last v (filled state w) (filled after w') (stay w w' state after g.shows (left_by j tree w last w' t c))
 
-  pub fills_init : (capable : FsOptions) → At j (init plan capable) w last w' →
-      IsFilledBy plan j.seat who (request.Init capable) state w last after w'
+  pub fills_init : (capable : FsOptions) → Serves plan (request.Init capable) state last after →
+      At j (init plan capable) w last w' → IsFilledBy plan j.seat who (request.Init capable) state w last after w'
   fills_init capable = stays_by (request.Init capable) (init plan capable) f (leaving_init plan capable)
     where
-      f : (told : Answer) (before later : FilledTree) → AllStay before later →
-          Fills plan j.seat who (request.Init capable) before told later
-      f (answer.Refused errno) before later k = k
-      f told before later k = k
+      f : (told : Answer) → Serves plan (request.Init capable) state told after → (before later : FilledTree) →
+          AllStay before later → Fills plan j.seat who (request.Init capable) before told later
+      f (answer.Refused errno) v before later k = k
+      f (answer.Inited options) v before later k = k
+      f told v before later k = absurd v
 
-  pub fills_destroy : At j destroy w last w' → IsFilledBy plan j.seat who request.Destroy state w last after w'
+  pub fills_destroy : Serves plan request.Destroy state last after →
+      At j destroy w last w' → IsFilledBy plan j.seat who request.Destroy state w last after w'
   fills_destroy = stays_by request.Destroy destroy f leaving_destroy
     where
-      f : (told : Answer) (before later : FilledTree) → AllStay before later →
-          Fills plan j.seat who request.Destroy before told later
-      f (answer.Refused errno) before later k = k
-      f told before later k = k
+      f : (told : Answer) → Serves plan request.Destroy state told after → (before later : FilledTree) →
+          AllStay before later → Fills plan j.seat who request.Destroy before told later
+      f (answer.Refused errno) v before later k = k
+      f answer.NoReply v before later k = k
+      f told v before later k = absurd v
 
-  pub fills_root : At j (begin (root plan)) w last w' →
-      IsFilledBy plan j.seat who request.Root state w last after w'
+  pub fills_root : Serves plan request.Root state last after →
+      At j (begin (root plan)) w last w' → IsFilledBy plan j.seat who request.Root state w last after w'
   fills_root =
       stays_by request.Root (begin (root plan)) f (leaving_begin _ (λ session. leaving_root plan session None _
       leaving_ends))
     where
-      f : (told : Answer) (before later : FilledTree) → AllStay before later →
-          Fills plan j.seat who request.Root before told later
-      f (answer.Refused errno) before later k = k
-      f told before later k = k
+      f : (told : Answer) → Serves plan request.Root state told after → (before later : FilledTree) →
+          AllStay before later → Fills plan j.seat who request.Root before told later
+      f (answer.Refused errno) v before later k = k
+      f answer.Done v before later k = k
+      f told v before later k = absurd v
 
   leaving_forgets : (list : List (ℕ × ℕ)) → Leaving (begin (batch_forget list))
   leaving_forgets list = leaving_begin _ (λ session. leaving_event _ done_in _ (λ done. leaving_ends))
 
-  pub fills_batch_forget : (list : List (ℕ × ℕ)) → At j (begin (batch_forget list)) w last w' →
+  pub fills_batch_forget : (list : List (ℕ × ℕ)) → Serves plan (request.BatchForget list) state last after →
+      At j (begin (batch_forget list)) w last w' →
       IsFilledBy plan j.seat who (request.BatchForget list) state w last after w'
   fills_batch_forget list = stays_by (request.BatchForget list) _ f (leaving_forgets list)
     where
-      f : (told : Answer) (before later : FilledTree) → AllStay before later →
-          Fills plan j.seat who (request.BatchForget list) before told later
-      f (answer.Refused errno) before later k = k
-      f told before later k = k
+      f : (told : Answer) → Serves plan (request.BatchForget list) state told after → (before later : FilledTree) →
+          AllStay before later → Fills plan j.seat who (request.BatchForget list) before told later
+      f (answer.Refused errno) v before later k = k
+      f answer.NoReply v before later k = k
+      f told v before later k = absurd v
 
-  pub fills_forget : (inode count : ℕ) → At j (begin (batch_forget ((inode, count) ∷ []))) w last w' →
+  pub fills_forget : (inode count : ℕ) → Serves plan (request.Forget inode count) state last after →
+      At j (begin (batch_forget ((inode, count) ∷ []))) w last w' →
       IsFilledBy plan j.seat who (request.Forget inode count) state w last after w'
   fills_forget inode count = stays_by (request.Forget inode count) _ f (leaving_forgets ((inode, count) ∷ []))
     where
-      f : (told : Answer) (before later : FilledTree) → AllStay before later →
-          Fills plan j.seat who (request.Forget inode count) before told later
-      f (answer.Refused errno) before later k = k
-      f told before later k = k
+      f : (told : Answer) → Serves plan (request.Forget inode count) state told after → (before later : FilledTree) →
+          AllStay before later → Fills plan j.seat who (request.Forget inode count) before told later
+      f (answer.Refused errno) v before later k = k
+      f answer.NoReply v before later k = k
+      f told v before later k = absurd v
 
   leaving_release : (inode handle : ℕ) → Leaving (begin (release inode handle))
   leaving_release inode handle = leaving_begin _ (λ session. leaving_event _ done_in _ (λ done. leaving_ends))
 
-  pub fills_release : (inode handle : ℕ) → At j (begin (release inode handle)) w last w' →
+  pub fills_release : (inode handle : ℕ) → Serves plan (request.Release inode handle) state last after →
+      At j (begin (release inode handle)) w last w' →
       IsFilledBy plan j.seat who (request.Release inode handle) state w last after w'
   fills_release inode handle = stays_by (request.Release inode handle) _ f (leaving_release inode handle)
     where
-      f : (told : Answer) (before later : FilledTree) → AllStay before later →
-          Fills plan j.seat who (request.Release inode handle) before told later
-      f (answer.Refused errno) before later k = k
-      f told before later k = k
+      f : (told : Answer) → Serves plan (request.Release inode handle) state told after → (before later : FilledTree) →
+          AllStay before later → Fills plan j.seat who (request.Release inode handle) before told later
+      f (answer.Refused errno) v before later k = k
+      f answer.Done v before later k = k
+      f told v before later k = absurd v
 
-  pub fills_release_dir : (inode handle : ℕ) → At j (begin (release inode handle)) w last w' →
+  pub fills_release_dir : (inode handle : ℕ) → Serves plan (request.ReleaseDir inode handle) state last after →
+      At j (begin (release inode handle)) w last w' →
       IsFilledBy plan j.seat who (request.ReleaseDir inode handle) state w last after w'
   fills_release_dir inode handle = stays_by (request.ReleaseDir inode handle) _ f (leaving_release inode handle)
     where
-      f : (told : Answer) (before later : FilledTree) → AllStay before later →
-          Fills plan j.seat who (request.ReleaseDir inode handle) before told later
-      f (answer.Refused errno) before later k = k
-      f told before later k = k
+      f : (told : Answer) → Serves plan (request.ReleaseDir inode handle) state told after → (before later : FilledTree) →
+          AllStay before later → Fills plan j.seat who (request.ReleaseDir inode handle) before told later
+      f (answer.Refused errno) v before later k = k
+      f answer.Done v before later k = k
+      f told v before later k = absurd v
 
-  pub fills_flush : (inode handle : ℕ) → At j (begin (flush inode handle)) w last w' →
+  pub fills_flush : (inode handle : ℕ) → Serves plan (request.Flush inode handle) state last after →
+      At j (begin (flush inode handle)) w last w' →
       IsFilledBy plan j.seat who (request.Flush inode handle) state w last after w'
   fills_flush inode handle =
       stays_by (request.Flush inode handle) _ f (leaving_begin _ (λ session. leaving_event _ pinned_in _ (λ fd.
       leaving_call (call.Flush fd) _ (flush_leaves fd) leaving_ends)))
     where
-      f : (told : Answer) (before later : FilledTree) → AllStay before later →
-          Fills plan j.seat who (request.Flush inode handle) before told later
-      f (answer.Refused errno) before later k = k
-      f told before later k = k
+      f : (told : Answer) → Serves plan (request.Flush inode handle) state told after → (before later : FilledTree) →
+          AllStay before later → Fills plan j.seat who (request.Flush inode handle) before told later
+      f (answer.Refused errno) v before later k = k
+      f answer.Done v before later k = k
+      f told v before later k = absurd v
 
   leaving_sync : (inode handle : ℕ) (datasync : Bool) → Leaving (begin (fsync inode handle datasync))
   leaving_sync inode handle datasync =
       leaving_begin _ (λ session. leaving_event _ pinned_in _ (λ fd.
       leaving_call (call.Sync fd datasync) _ (sync_leaves fd datasync) leaving_ends))
 
-  pub fills_fsync : (inode handle : ℕ) (datasync : Bool) → At j (begin (fsync inode handle datasync)) w last w' →
+  pub fills_fsync : (inode handle : ℕ) (datasync : Bool) → Serves plan (request.Fsync inode handle datasync) state last after →
+      At j (begin (fsync inode handle datasync)) w last w' →
       IsFilledBy plan j.seat who (request.Fsync inode handle datasync) state w last after w'
   fills_fsync inode handle datasync =
       stays_by (request.Fsync inode handle datasync) _ f (leaving_sync inode handle datasync)
     where
-      f : (told : Answer) (before later : FilledTree) → AllStay before later →
-          Fills plan j.seat who (request.Fsync inode handle datasync) before told later
-      f (answer.Refused errno) before later k = k
-      f told before later k = k
+      f : (told : Answer) → Serves plan (request.Fsync inode handle datasync) state told after → (before later : FilledTree) →
+          AllStay before later → Fills plan j.seat who (request.Fsync inode handle datasync) before told later
+      f (answer.Refused errno) v before later k = k
+      f answer.Done v before later k = k
+      f told v before later k = absurd v
 
-  pub fills_fsync_dir : (inode handle : ℕ) (datasync : Bool) → At j (begin (fsync inode handle datasync)) w last w' →
+  pub fills_fsync_dir : (inode handle : ℕ) (datasync : Bool) → Serves plan (request.FsyncDir inode handle datasync) state last after →
+      At j (begin (fsync inode handle datasync)) w last w' →
       IsFilledBy plan j.seat who (request.FsyncDir inode handle datasync) state w last after w'
   fills_fsync_dir inode handle datasync =
       stays_by (request.FsyncDir inode handle datasync) _ f (leaving_sync inode handle datasync)
     where
-      f : (told : Answer) (before later : FilledTree) → AllStay before later →
-          Fills plan j.seat who (request.FsyncDir inode handle datasync) before told later
-      f (answer.Refused errno) before later k = k
-      f told before later k = k
+      f : (told : Answer) → Serves plan (request.FsyncDir inode handle datasync) state told after → (before later : FilledTree) →
+          AllStay before later → Fills plan j.seat who (request.FsyncDir inode handle datasync) before told later
+      f (answer.Refused errno) v before later k = k
+      f answer.Done v before later k = k
+      f told v before later k = absurd v
 
-  pub fills_syncfs : (inode : ℕ) → At j (begin (syncfs plan inode)) w last w' →
+  pub fills_syncfs : (inode : ℕ) → Serves plan (request.SyncFs inode) state last after →
+      At j (begin (syncfs plan inode)) w last w' →
       IsFilledBy plan j.seat who (request.SyncFs inode) state w last after w'
   fills_syncfs inode = stays_by (request.SyncFs inode) _ f (leaving_syncfs plan inode)
     where
-      f : (told : Answer) (before later : FilledTree) → AllStay before later →
-          Fills plan j.seat who (request.SyncFs inode) before told later
-      f (answer.Refused errno) before later k = k
-      f told before later k = k
+      f : (told : Answer) → Serves plan (request.SyncFs inode) state told after → (before later : FilledTree) →
+          AllStay before later → Fills plan j.seat who (request.SyncFs inode) before told later
+      f (answer.Refused errno) v before later k = k
+      f answer.Done v before later k = k
+      f told v before later k = absurd v
 
-  pub fills_unserved : (opcode : ℕ) → At j (begin unserved) w last w' →
-      IsFilledBy plan j.seat who (request.Other opcode) state w last after w'
+  pub fills_unserved : (opcode : ℕ) → Serves plan (request.Other opcode) state last after →
+      At j (begin unserved) w last w' → IsFilledBy plan j.seat who (request.Other opcode) state w last after w'
   fills_unserved opcode =
       stays_by (request.Other opcode) _ f (leaving_begin _ (λ session. leaving_ends))
     where
-      f : (told : Answer) (before later : FilledTree) → AllStay before later →
-          Fills plan j.seat who (request.Other opcode) before told later
-      f (answer.Refused errno) before later k = k
-      f told before later k = k
+      f : (told : Answer) → Serves plan (request.Other opcode) state told after → (before later : FilledTree) →
+          AllStay before later → Fills plan j.seat who (request.Other opcode) before told later
+      f (answer.Refused errno) v before later k = k
+      f told v before later k = absurd v

@@ -254,8 +254,22 @@ Fills plan seat who (request.ListXattr inode size) state (answer.Xattrs told) af
 Fills plan seat who (request.RemoveXattr inode name) state answer.Done after =
     OfNumber state.plain inode (λ object. OfName plan state name (λ held.
     (is_some ((state.contents object).xattrs held) ≡ true) × Becomes state object (valued held None) after))
--- all others
-Fills plan seat who asked state last after = AllStay state after
+-- sessions, names, and what a guest gives back or has written out: contents stay
+Fills plan seat who (request.Init capable) state (answer.Inited options) after = AllStay state after
+Fills plan seat who request.Destroy state answer.NoReply after = AllStay state after
+Fills plan seat who request.Root state answer.Done after = AllStay state after
+Fills plan seat who (request.Forget inode count) state answer.NoReply after = AllStay state after
+Fills plan seat who (request.BatchForget list) state answer.NoReply after = AllStay state after
+Fills plan seat who (request.Release inode handle) state answer.Done after = AllStay state after
+Fills plan seat who (request.ReleaseDir inode handle) state answer.Done after = AllStay state after
+Fills plan seat who (request.Unlink parent name) state answer.Done after = AllStay state after
+Fills plan seat who (request.Rmdir parent name) state answer.Done after = AllStay state after
+Fills plan seat who (request.Rename olddir oldname newdir newname flags) state answer.Done after = AllStay state after
+Fills plan seat who (request.Flush inode handle) state answer.Done after = AllStay state after
+Fills plan seat who (request.Fsync inode handle datasync) state answer.Done after = AllStay state after
+Fills plan seat who (request.FsyncDir inode handle datasync) state answer.Done after = AllStay state after
+Fills plan seat who (request.SyncFs inode) state answer.Done after = AllStay state after
+Fills plan seat who asked state last after = ⊥
 
 -- ---- edits
 
@@ -282,9 +296,11 @@ FillsEdit (edit.Dir path mode uid gid) state after =
 FillsEdit (edit.Write path bytes) state after =
     (object : ℕ) × PathLeads state.plain.tree path object × (is_file state object ≡ true)
     × Becomes state object (λ was. record was { bytes = bytes }) after
-FillsEdit other state after = AllStay state after
+FillsEdit (edit.Unlink path) state after = AllStay state after
+FillsEdit (edit.Rename old new) state after = AllStay state after
 
 abbrev pub FillsAsked : Plan → HostSeat → Asked → FilledTree → Answer → FilledTree → Type 0
 FillsAsked plan seat (Requests who asked) state last after = Fills plan seat who asked state last after
 FillsAsked plan seat (Edits edit) state answer.Edited after = FillsEdit edit state after
-FillsAsked plan seat (Edits edit) state last after = AllStay state after
+FillsAsked plan seat (Edits edit) state (answer.EditRefused errno) after = AllStay state after
+FillsAsked plan seat (Edits edit) state last after = ⊥
