@@ -1,6 +1,7 @@
 -- Proof. `setattr`.
 use Rattle.std.specs.Prelude.{◌||◌}
 use Rattle.std.proofs.Common.{inl, inr, ◌≡◌, ◌≢◌, ℕ, Bool, true, false, Option, Some, None, refl, sym, ap, subst}
+use Rattle.std.proofs.Common.{◌∙◌}
 use Rattle.pt_host.specs.Contents.{ObjectContents}
 use Rattle.pt_host.specs.Tree.{Tree, IsOpenOn}
 use Rattle.pt_host.specs.Errno.{einval}
@@ -32,6 +33,7 @@ use Rattle.pt_law.specs.World.{fd_of}
 use Rattle.pt_law.specs.Under.{Role}
 use Rattle.pt_fit.specs.Asker.{role_in}
 use Rattle.pt_plain.specs.Plain.{PlainTree, Stands}
+use Rattle.pt_plain.proofs.Showing.{bare_tree}
 use Rattle.pt_plain.proofs.Walking.{Quiet, quiet_on}
 use Rattle.pt_filled.specs.Fills.{Fills, OfTarget, set_to, Sets, sized, Stage, Stage.{Bared as BaredStage}}
 use Rattle.pt_filled.specs.Fills.{Stage.{Disowned, Moded, Owned, Sized, Untouched}}
@@ -115,7 +117,12 @@ module _ (plan : Plan) (who : Context) (agreed : Negotiated) (inode : ℕ) (hand
             (
               ru.there.object,
               stands_from w v state inode ru.there.object g.shows qv ru.there.is_object ru.there.live,
-              (told, stat_then u w' after (fd_of row.form) ru.there.object told g.ends behind seen, refl),
+              (
+                told,
+                stat_then u w' after (fd_of row.form) ru.there.object told g.ends behind
+                    ((idles_calm j t w' k.1).quiet.still.tree ∙ ap bare_tree m.2.goes.made.0.0.trees.changes.5) seen,
+                refl,
+              ),
             ),
             refl,
           )

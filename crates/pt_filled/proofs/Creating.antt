@@ -154,7 +154,8 @@ module _ (plan : Plan) (who : Context) (agreed : Negotiated) (j : Thread) (w : F
                   ap (λ (z : Tree). z.names l.dir name) (g.shows.tree ∙ sym q.quiet.still.tree) ∙ l.leads,
                   (
                     l.told,
-                    stat_of w l.at state l.fd l.object l.told g.shows (keeps_on w f l.at q.keeps l.before) l.seen,
+                    stat_of w l.at state l.fd l.object l.told g.shows (keeps_on w f l.at q.keeps l.before)
+                        (l.tree_at ∙ q.quiet.still.tree) l.seen,
                     l.parent_is,
                     ap (λ (o : List Object). slice_get o l.dir) (objects_of w state g.shows ∙ sym q.keeps.objects)
                         ∙ l.is_parent,

@@ -42,6 +42,7 @@ use Rattle.pt_rules.specs.ContentCalls.{written, resized, write_row, write_start
 use Rattle.pt_rules.specs.ContentCalls.{becomes_written}
 use Rattle.pt_rules.specs.Rows.{Row, on_row}
 use Rattle.pt_rules.specs.State.{State, contents_where, time_of, tree_of}
+use Rattle.pt_rules.specs.Sound.{IsSound}
 use Rattle.pt_rules.specs.Table.{answer}
 use Rattle.pt_rules.specs.Laws.Cases.{by_fd, by_checks, by_refusal}
 use Rattle.pt_plain.proofs.Stilling.{IsStill, still_goes}
@@ -359,8 +360,8 @@ reopened_directory j w on fd flags told object s o e =
 pub record StatOk (w : Full) (fd : Fd) (stat : Stat) (object : ℕ) : Type 0 where
   pub node : Node
   pub there : slice_get w.state.nodes object ≡ Some node
-  pub links : ℕ
-  pub is : stat ≡ status_of links node
+  pub sound : IsSound w.state
+  pub is : stat ≡ status_of (links_of w.state.nodes object node) node
 
 same_stat : (a b : Stat) → value.Stat a ≡ value.Stat b → a ≡ b
 same_stat a b e = cc
@@ -385,8 +386,8 @@ was_seen j w on fd stat object s o =
         let same = opened_object w.state fd object file o is in record {
           node = node;
           there = ap (slice_get w.state.nodes) (sym same) ∙ there;
-          links = links_of w.state.nodes file.object node;
+          sound = s.made.0.sound;
           is = same_stat stat (status_of (links_of w.state.nodes file.object node) node)
               (same_told (value.Stat stat) (value.Stat (status_of (links_of w.state.nodes file.object node) node))
-              (ap (λ (a : Answered). a.0) e));
+              (ap (λ (a : Answered). a.0) e)) ∙ ap (λ (n : ℕ). status_of (links_of w.state.nodes n node) node) same;
         })

@@ -13,6 +13,7 @@ use Rattle.pt_iface.specs.declared.request.Context.{Context}
 use Rattle.pt_iface.specs.declared.request.Request.{Request}
 use Rattle.pt_req.specs.declared.plan.Plan.{Plan}
 use Rattle.pt_law.proofs.Givings.{live_count}
+use Rattle.pt_node.specs.Links.{links_of}
 use Rattle.pt_node.specs.Node.{blocks_of, object_of}
 use Rattle.pt_node.specs.Slots.{open_at}
 use Rattle.pt_node.specs.declared.node.Node.{Node}
@@ -21,13 +22,14 @@ use Rattle.pt_rules.specs.Sound.{IsSound}
 use Rattle.pt_rules.specs.State.{contents_where, opened_as}
 use Rattle.pt_plain.specs.Plain.{PlainTree, Stands, handled_as}
 use Rattle.pt_plain.proofs.Serving.{stands}
-use Rattle.pt_plain.proofs.Showing.{Shows, handle_at}
+use Rattle.pt_plain.proofs.Showing.{bare_tree, Shows, handle_at}
 use Rattle.pt_plain.proofs.Walking.{Quiet, some_is}
 use Rattle.pt_filled.specs.Contents.{FilledTree, IsSame, AllBecome, AllStay, is_file_kind, is_file}
 use Rattle.pt_filled.specs.Fills.{Fills, FillsRefused}
-use Rattle.pt_filled.specs.Told.{IsStatOf}
+use Rattle.pt_filled.specs.Told.{AreNames, IsStatOf, links_in}
 use Rattle.pt_filled.proofs.Effects.{StatOk, size_is}
 use Rattle.pt_filled.proofs.Hosting.{Full, Alters, Keeps, world_of, contents_at, objects_at}
+use Rattle.pt_filled.proofs.Linking.{are_listed, links_are, names_listed}
 use Rattle.pt_filled.proofs.Parts.{IsRefused}
 use Rattle.pt_filled.proofs.Tables.{object_is}
 
@@ -82,11 +84,27 @@ open_within w fd object s o = go (open_at w.state.slots fd.0) refl o.1
         let n = length-map w.state.nodes object_of in
         let l = s.opened fd.0 file e in omega (arith, same, n, l)
 
+-- the names that there were then, and the links by them
+names_are : (d : Full) (tree : Tree) → tree ≡ bare_tree (world_of d).tree → IsSound d.state →
+    AreNames tree (names_listed d.state)
+names_are d tree e l = subst (λ (t : Tree). AreNames t (names_listed d.state)) (sym e) (are_listed d.state l)
+
+links_told : (d : Full) (tree : Tree) → tree ≡ bare_tree (world_of d).tree → IsSound d.state → (object : ℕ)
+    (node : Node) → slice_get d.state.nodes object ≡ Some node →
+    links_of d.state.nodes object node ≡ links_in tree (names_listed d.state) object (object_of node).kind
+links_told d tree e l object node there =
+    links_are d.state l object node there
+    ∙ ap (λ (t : Tree). links_in t (names_listed d.state) object (object_of node).kind) (sym e)
+
 -- what was told is what is there then
 pub stat_then : (d w' : Full) (after : PlainTree) (fd : Fd) (object : ℕ) (told : Stat) → Shows (world_of w') after →
-    Keeps d w' → StatOk d fd told object → IsStatOf (filled after w') object told
-stat_then d w' after fd object told s k o = record {
+    Keeps d w' → bare_tree (world_of w').tree ≡ bare_tree (world_of d).tree → StatOk d fd told object →
+    IsStatOf (filled after w') object told
+stat_then d w' after fd object told s k t o = record {
   what = object_of o.node;
+  names = names_listed d.state;
+  are_names = names_are d after.tree (s.tree ∙ t) o.sound;
+  links = ap (λ (t : Stat). t.nlink) o.is ∙ links_told d after.tree (s.tree ∙ t) o.sound object o.node o.there;
   is_object = ap (λ (l : List Object). slice_get l object) (objects_of w' after s ∙ k.objects) ∙ there;
   ids = ap (λ (t : Stat). t.ids) o.is;
   mode = ap (λ (t : Stat). t.mode) o.is ∙ ap (λ (c : ObjectContents). 4096 * (object_of o.node).kind + c.mode) now
@@ -120,9 +138,13 @@ stat_then d w' after fd object told s k o = record {
 
 -- and what was there before
 pub stat_of : (w d : Full) (state : PlainTree) (fd : Fd) (object : ℕ) (told : Stat) → Shows (world_of w) state →
-    Keeps w d → StatOk d fd told object → IsStatOf (filled state w) object told
-stat_of w d state fd object told s k o = record {
+    Keeps w d → bare_tree (world_of d).tree ≡ bare_tree (world_of w).tree → StatOk d fd told object →
+    IsStatOf (filled state w) object told
+stat_of w d state fd object told s k t o = record {
   what = object_of o.node;
+  names = names_listed d.state;
+  are_names = names_are d state.tree (s.tree ∙ sym t) o.sound;
+  links = ap (λ (t : Stat). t.nlink) o.is ∙ links_told d state.tree (s.tree ∙ sym t) o.sound object o.node o.there;
   is_object = ap (λ (l : List Object). slice_get l object) (objects_of w state s ∙ sym k.objects) ∙ there;
   ids = ap (λ (t : Stat). t.ids) o.is;
   mode = ap (λ (t : Stat). t.mode) o.is ∙ ap (λ (c : ObjectContents). 4096 * (object_of o.node).kind + c.mode) now

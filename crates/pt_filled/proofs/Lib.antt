@@ -4,6 +4,7 @@ pub mod Tables
 pub mod Effects
 pub mod News
 pub mod Parts
+pub mod Linking
 pub mod Filling
 pub mod Finding
 pub mod Clearing

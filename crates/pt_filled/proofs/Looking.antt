@@ -1,5 +1,6 @@
 -- Proof. A lookup over the tree host: which object its number stands for, and what is told of it.
 use Rattle.std.proofs.Common.{◌≡◌, ◌≢◌, ◌<◌, ℕ, List, true, Option, Some, None, refl, sym, ap, subst, ◌∙◌, slice_get}
+use Rattle.std.proofs.Common.{inr}
 use Rattle.pt_host.specs.Tree.{Tree, Object, IsObject, IsOpenOn}
 use Rattle.pt_host.specs.declared.ids.Fd.{Fd}
 use Rattle.pt_host.specs.declared.ids.ObjIds.{ObjIds}
@@ -38,6 +39,7 @@ use Rattle.pt_law.proofs.Lists.{set_at_same}
 use Rattle.pt_plain.specs.Plain.{PlainTree}
 use Rattle.pt_plain.proofs.Entering.{given_object}
 use Rattle.pt_plain.proofs.Showing.{bare_tree, Shows}
+use Rattle.pt_plain.proofs.Stilling.{still_goes}
 use Rattle.pt_plain.proofs.Walking.{opened_name, some_is}
 use Rattle.pt_filled.specs.Told.{NamesEntry}
 use Rattle.pt_filled.proofs.Effects.{StatOk, was_seen}
@@ -167,6 +169,7 @@ pub record IsLooked (plan : Plan) (agreed : Negotiated) (w on : Full) (parent : 
   pub fd : Fd
   pub seen : StatOk at fd told object
   pub before : Keeps w at
+  pub tree_at : bare_tree (world_of at).tree ≡ bare_tree (world_of w).tree
   pub behind : Keeps at on
   pub parent_is : Object
   pub is_parent : slice_get (objects_at w) dir ≡ Some parent_is
@@ -246,6 +249,9 @@ walk_look_up {G} j plan session parent name next w last w' n c out goes =
               fd = fd;
               seen = ok;
               before = kb;
+              tree_at = (still_goes j.job (world_of a) (world_of b) (Calls (call.OpenAt (fd_of directory.form) name
+                  by_path 0)) (Host (host.Ok (value.Fd fd))) (inr refl) mb.1 mb.2.goes).tree
+                  ∙ ap bare_tree ra.there.tree;
               behind = keeps_on b d f kbd (keeps_on d x f ke idle.keeps);
               parent_is = ra.what;
               is_parent = ra.is_what;
@@ -280,7 +286,8 @@ told_entry plan w w' state after agreed parent name entry s s' a t =
         ap (λ (z : Tree). z.names l.dir name) (s'.tree ∙ t.tree) ∙ l.leads,
         (
           l.told,
-          stat_then l.at w' after l.fd l.object l.told s' (keeps_on l.at t.on w' l.behind t.later) l.seen,
+          stat_then l.at w' after l.fd l.object l.told s' (keeps_on l.at t.on w' l.behind t.later)
+              (t.tree ∙ sym l.tree_at) l.seen,
           l.parent_is,
           ap (λ (o : List Object). slice_get o l.dir) (objects_of w' after s' ∙ ap (λ (z : Tree). z.objects) t.tree)
               ∙ l.is_parent,

@@ -140,7 +140,7 @@ module _ (plan : Plan) (who : Context) (j : Thread) (w : Full) (last : Answer) (
           let seen = was_seen j d e fd told f.object m.2 f.open_on in
           let kept = leaves_keeps j d e (Calls (call.Stat fd)) _ m (tt, λ tree after object no. no) in
           tells (request.GetAttr inode) _ k.0 (
-            (f.object, f.stands, (told, stat_of w d state fd f.object told g.shows f.calm.keeps seen, refl)),
+            (f.object, f.stands, (told, stat_of w d state fd f.object told g.shows f.calm.keeps f.calm.quiet.still.tree seen, refl)),
             refl,
             stays (left d e f.calm.keeps kept k),
           )
@@ -172,7 +172,7 @@ module _ (plan : Plan) (who : Context) (j : Thread) (w : Full) (last : Answer) (
               f.stands,
               (
                 attr_of plan told 0,
-                (told, stat_of w d state fd f.object told g.shows f.calm.keeps seen, refl),
+                (told, stat_of w d state fd f.object told g.shows f.calm.keeps f.calm.quiet.still.tree seen, refl),
                 is,
               ),
             ),

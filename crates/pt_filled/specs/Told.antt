@@ -1,10 +1,10 @@
 -- Believed. What is told of contents: attributes, entries, names and values of extended attributes, names of a
 -- directory. After stat(2), statfs(2), getxattr(2), listxattr(2), getdents64(2).
 use Rattle.std.specs.Prelude.{◌≡◌, ℕ, ◌==◌, ◌+◌, ◌*◌, if◌then◌else◌, Bool, List, [], ◌∷◌, length, drop, Option, Some}
-use Rattle.std.specs.Prelude.{None, is_some, slice_get}
-use Rattle.std.specs.List.{flat_map, list_any, IsDistinct}
+use Rattle.std.specs.Prelude.{None, is_some, slice_get, true, false, min, count_by, sum_by}
+use Rattle.std.specs.List.{flat_map, list_any, IsDistinct, range_with_len}
 use Rattle.std.specs.Str.{bytes_eq}
-use Rattle.pt_host.specs.Tree.{Tree, Object}
+use Rattle.pt_host.specs.Tree.{Tree, Object, directory_kind}
 use Rattle.pt_host.specs.declared.stat.FsStat.{FsStat}
 use Rattle.pt_host.specs.declared.stat.Stat.{Stat}
 use Rattle.pt_maps.specs.MappedNames.{client_name, nul_ended}
@@ -23,17 +23,58 @@ use Rattle.pt_req.specs.Attributes.{is_blocked}
 use Rattle.pt_req.specs.Entries.{attr_of, entry_of}
 use Rattle.pt_req.specs.declared.plan.Plan.{Plan}
 use Rattle.pt_xattr.specs.Listed.{names_told}
-use Rattle.pt_node.specs.Limits.{name_max}
+use Rattle.pt_node.specs.Limits.{links_max, name_max}
 use Rattle.pt_node.specs.Node.{blocks_of}
 use Rattle.pt_plain.specs.Plain.{OfNumber}
 use Rattle.pt_filled.specs.Contents.{FilledTree}
 
--- what is told of an object: all but its links and times
+-- These are the names that have something, in some order, each once.
+abbrev pub AreAll : (List ℕ → Bool) → List (List ℕ) → Type 0
+AreAll has names = IsDistinct bytes_eq names × ((name : List ℕ) → list_any (bytes_eq name) names ≡ has name)
+
+-- ---- links
+
+-- these are the names of each directory
+abbrev pub AreNames : Tree → (ℕ → List (List ℕ)) → Type 0
+AreNames tree names = (dir : ℕ) → AreAll (λ name. is_some (tree.names dir name)) (names dir)
+
+-- a name leads to the object, or to some directory
+abbrev pub leads_to : ℕ → Option ℕ → Bool
+leads_to object None = false
+leads_to object (Some there) = object == there
+
+abbrev pub is_of_directory : Option Object → Bool
+is_of_directory None = false
+is_of_directory (Some what) = what.kind == directory_kind
+
+abbrev pub leads_to_directory : Tree → Option ℕ → Bool
+leads_to_directory tree None = false
+leads_to_directory tree (Some there) = is_of_directory (slice_get tree.objects there)
+
+-- A directory has two links and one by each directory in it, also where it has lost its own name. Any other object
+-- has one by each of its names.
+abbrev pub links_by : Tree → (ℕ → List (List ℕ)) → ℕ → Bool → ℕ
+links_by tree names object true =
+    2 + count_by (λ name. leads_to_directory tree (tree.names object name)) (names object)
+links_by tree names object false =
+    sum_by (λ dir. count_by (λ name. leads_to object (tree.names dir name)) (names dir))
+    (range_with_len 0 (length tree.objects))
+
+-- the count stands still where its type ends
+abbrev pub links_in : Tree → (ℕ → List (List ℕ)) → ℕ → ℕ → ℕ
+links_in tree names object kind = min (links_by tree names object (kind == directory_kind)) links_max
+
+-- ---- attributes
+
+-- what is told of an object: all but its times
 pub record IsStatOf (state : FilledTree) (object : ℕ) (stat : Stat) : Type 0 where
   pub what : Object
   pub is_object : slice_get state.plain.tree.objects object ≡ Some what
   pub ids : stat.ids ≡ what.ids
   pub mode : stat.mode ≡ 4096 * what.kind + (state.contents object).mode
+  pub names : ℕ → List (List ℕ)
+  pub are_names : AreNames state.plain.tree names
+  pub links : stat.nlink ≡ links_in state.plain.tree names object what.kind
   pub uid : stat.uid ≡ (state.contents object).uid
   pub gid : stat.gid ≡ (state.contents object).gid
   pub rdev : stat.rdev ≡ (state.contents object).rdev
@@ -88,10 +129,6 @@ OfName plan state name P = (held : List ℕ) × (name_held plan state.plain.agre
 -- the value, or how long it is where no room is given for it
 abbrev pub TellsValue : ℕ → List ℕ → GetxattrReply → Type 0
 TellsValue size value told = told ≡ (if size == 0 then xattr.Count (length value) else xattr.Value value)
-
--- These are the names that have something, in some order, each once.
-abbrev pub AreAll : (List ℕ → Bool) → List (List ℕ) → Type 0
-AreAll has names = IsDistinct bytes_eq names × ((name : List ℕ) → list_any (bytes_eq name) names ≡ has name)
 
 -- the names of all extended attributes, those that the guest is told of, or how long they are together
 abbrev pub names_ended : List (List ℕ) → List ℕ
