@@ -38,26 +38,26 @@ fn unblocked(alloc: Global, agreed: Negotiated, list: &[u8]) -> Result<Bytes, Al
 }
 
 /// Names that the host lists, by the guest's names.
-fn by_server(alloc: Global, map: &Option<XattrMap>, list: &[u8]) -> Result<Bytes, MapError>
+fn by_server(alloc: Global, map: &Option<XattrMap>, list: &[u8]) -> Result<Bytes, AllocError>
     ensures { IfOk result (λ names. names ≡ by_server map.now list.now) }
 {
     let Some(map) = map else {
-        return Ok(Bytes::from_slice(alloc, list)?);
+        return Bytes::from_slice(alloc, list);
     };
     match map.map_server_xattrlist(list) {
         Ok(names) => Ok(names),
-        Err(MapError::Memory) => Err(MapError::Memory),
+        Err(MapError::Memory) => Err(AllocError),
         Err(_) => Ok(Bytes::new(alloc)),
     }
 }
 
 /// The names that the guest is told of such a list.
-pub fn names_told(plan: &Plan, agreed: Negotiated, list: &[u8]) -> Result<Bytes, MapError>
+pub fn names_told(plan: &Plan, agreed: Negotiated, list: &[u8]) -> Result<Bytes, AllocError>
     ensures { IfOk result (λ names. names ≡ names_told plan.now agreed list.now) }
 {
     let alloc = plan.uid_map.allocator();
     let names = by_server(alloc, &plan.config.xattrmap, list)?;
-    Ok(unblocked(alloc, agreed, names.as_slice())?)
+    unblocked(alloc, agreed, names.as_slice())
 }
 
 /// No entries, which takes no memory.
