@@ -141,13 +141,13 @@ module _ (plan : Plan) (who : Context) (agreed : Negotiated) (j : Thread) (w : F
   fills_in_session (request.OpenDir inode flags) f r a v c =
       fills_open_dir plan who agreed j w last w' state after g n inode flags r v c
   fills_in_session (request.Mkdir parent name mode umask ext) f r a v c =
-      fills_mkdir plan who agreed j w last w' state after g n a parent name mode umask ext f r v c
+      fills_mkdir plan who agreed j w last w' state after g n a parent name mode umask ext r v c
   fills_in_session (request.Mknod parent name mode rdev umask ext) f r a v c =
-      fills_mknod plan who agreed j w last w' state after g n a parent name mode rdev umask ext f r v c
+      fills_mknod plan who agreed j w last w' state after g n a parent name mode rdev umask ext r v c
   fills_in_session (request.Symlink target parent name ext) f r a v c =
-      fills_symlink plan who agreed j w last w' state after g n a target parent name ext f r v c
+      fills_symlink plan who agreed j w last w' state after g n a target parent name ext r v c
   fills_in_session (request.Create parent name mode kill flags umask ext) f r a v c =
-      fills_create plan who agreed j w last w' state after g n a parent name mode kill flags umask ext f r v c
+      fills_create plan who agreed j w last w' state after g n a parent name mode kill flags umask ext r v c
   fills_in_session (request.SetAttr inode handle valid attr) f r a v c =
       fills_setattr plan who agreed inode handle valid attr j w last w' state after g n r c
   fills_in_session (request.SetXattr inode name value flags extra) f r a v c =

@@ -1,7 +1,7 @@
 -- Proof. `create`.
 use Rattle.std.specs.Prelude.{◌&&◌}
-use Rattle.std.proofs.Common.{inl, inr, [], ◌≡◌, ◌≢◌, ◌<◌, ℕ, List, length, Bool, true, Option, Some, None, refl, sym}
-use Rattle.std.proofs.Common.{ap, subst, ◌∙◌, slice_get}
+use Rattle.std.proofs.Common.{inl, inr, [], ◌≡◌, ◌≢◌, ◌<◌, ℕ, List, length, Bool, Some, refl, sym, ap, subst, ◌∙◌}
+use Rattle.std.proofs.Common.{slice_get}
 use Rattle.pt_host.specs.Tree.{Tree, Object}
 use Rattle.pt_host.specs.Contents.{ObjectContents}
 use Rattle.pt_host.specs.Flags.{includes, o_trunc}
@@ -13,7 +13,6 @@ use Rattle.pt_iface.specs.declared.request.Context.{Context}
 use Rattle.pt_iface.specs.declared.request.Request.{Request}
 use Rattle.pt_iface.specs.declared.entry.Entry.{Entry}
 use Rattle.pt_iface.specs.declared.request.Extensions.{Extensions}
-use Rattle.pt_iface.specs.declared.request.SecContext.{SecContext}
 use Rattle.pt_iface.specs.declared.flags.OpenOptions.{OpenOptions}
 use Rattle.pt_iface.specs.declared.answer.Answer.TheVariants as answer
 use Rattle.pt_iface.specs.declared.request.Request.TheVariants as request
@@ -28,17 +27,18 @@ use Rattle.pt_plain.specs.Plain.{PlainTree}
 use Rattle.pt_plain.specs.Serves.{Serves}
 use Rattle.pt_filled.specs.Fills.{Fills, IsNamed}
 use Rattle.pt_filled.specs.Contents.{is_file, is_file_kind, with_changed, uncapped_if, Becomes as BecomesThere}
-use Rattle.pt_filled.specs.New.{fresh, in_context_if, Makes as MakesNew, MakesAsked, next_object, permitted}
+use Rattle.pt_filled.specs.New.{fresh, IsInContext, MakesAsked, MakesBare, next_object, permitted}
 use Rattle.pt_filled.specs.Told.{NamesEntry}
 use Rattle.pt_filled.proofs.Filling.{Between, filled, IsFilledBy, stat_of, become, file_there, objects_of}
 use Rattle.pt_filled.proofs.Filling.{stands_from}
 use Rattle.pt_filled.proofs.Hosting.{Full, Thread, contents_at, world_of, Alters, objects_at}
 use Rattle.pt_filled.proofs.Parts.{At, Calm, keeps_on}
+use Rattle.pt_filled.proofs.Labelling.{IsMadeWhole}
 use Rattle.pt_filled.proofs.Looking.{IsLooked, IsToldSo, told_entry}
 use Rattle.pt_filled.proofs.Entries.{entry_agreed, gives_agreed}
 use Rattle.pt_filled.proofs.News.{HasMade}
 use Rattle.pt_filled.proofs.Creations.{CreatesSo, creates_so, EndsSo}
-use Rattle.pt_filled.proofs.Made.{made_filled, stayed_filled}
+use Rattle.pt_filled.proofs.Made.{made_filled, names_new, stayed_filled}
 use Rattle.pt_filled.proofs.Opened.{emptied_so}
 
 not_created : (errno : Errno) (entry : Entry) (handle : ℕ) (options : OpenOptions) →
@@ -53,28 +53,39 @@ module _ (plan : Plan) (who : Context) (agreed : Negotiated) (j : Thread) (w : F
     (state after : PlainTree) (g : Between w w' state after) (n : last ≢ answer.NoMemory)
     (a : agreed ≡ w.tables.negotiated) where
   pub fills_create : (parent : ℕ) (name : List ℕ) (mode : ℕ) (kill : Bool) (flags umask : ℕ) (ext : Extensions) →
-      ext.secctx ≡ None →
       j.role ≡ role_in plan j.seat who agreed (request.Create parent name mode kill flags umask ext) →
       Serves plan (request.Create parent name mode kill flags umask ext) state last after →
       At j (begin (create plan j.seat (file_asked who parent name mode kill flags umask ext))) w last w' →
       IsFilledBy plan j.seat who (request.Create parent name mode kill flags umask ext) state w last after w'
-  fills_create parent name mode kill flags umask ext bare role v c =
-      fills last refl v (creates_so plan (file_asked who parent name mode kill flags umask ext) j w last w' n bare
+  fills_create parent name mode kill flags umask ext role v c =
+      fills last refl v (creates_so plan (file_asked who parent name mode kill flags umask ext) j w last w' n
       (λ fd how. ap (λ (r : Role). r.lacks (call.Reopen fd how)) role) c)
     where
       asked : Request
       asked = request.Create parent name mode kill flags umask ext
 
+      -- what it makes, before it has a context
+      was : Identity → ObjectContents
+      was by_whom = fresh by_whom (permitted by_whom mode) 0 []
+
+      asker : (by_whom : Identity) → j.role.asker ≡ Some by_whom →
+          asker_in plan j.seat who state.agreed asked ≡ Some by_whom
+      asker by_whom e = ap (λ (x : Negotiated). asker_in plan j.seat who x asked) (g.shows.agreed ∙ sym a)
+          ∙ sym (ap (λ (r : Role). r.asker) role) ∙ e
+
+      bares : (by_whom : Identity) → j.role.asker ≡ Some by_whom → HasMade w w' 8 (was by_whom) →
+          MakesBare plan j.seat who asked (filled state w) (filled after w')
+      bares by_whom e m = (by_whom, asker by_whom e, made_filled w w' state after 8 (was by_whom) g m)
+
       news : (by_whom : Identity) → j.role.asker ≡ Some by_whom →
-          HasMade w w' 8 (fresh by_whom (permitted by_whom mode) 0 []) →
-          MakesAsked plan j.seat who asked true (filled state w) (filled after w')
-      news by_whom e m = (
+          IsMadeWhole plan w.tables.negotiated ext.secctx w w' 8 (was by_whom) parent name →
+          MakesAsked plan j.seat who asked (filled state w) (filled after w')
+      news by_whom e t = (
         by_whom,
-        ap (λ (x : Negotiated). asker_in plan j.seat who x asked) (g.shows.agreed ∙ sym a)
-            ∙ sym (ap (λ (r : Role). r.asker) role) ∙ e,
-        subst (λ (x : Option SecContext). MakesNew (filled state w) 8
-            (in_context_if true plan state.agreed x (fresh by_whom (permitted by_whom mode) 0 [])) (filled after w'))
-            (sym bare) (made_filled w w' state after 8 _ g m),
+        asker by_whom e,
+        t.is,
+        subst (λ (x : Negotiated). IsInContext plan x ext.secctx (was by_whom) t.is) (sym g.shows.agreed) t.in_context,
+        made_filled w w' state after 8 t.is g t.made,
       )
 
       -- the file that has the name, as it has become
@@ -105,10 +116,13 @@ module _ (plan : Plan) (who : Context) (agreed : Negotiated) (j : Thread) (w : F
           ap (length {A = Object}) (objects_of w' after g.ends ∙ same ∙ sym (objects_of w state g.shows))
 
       fills : (told : Answer) → last ≡ told → Serves plan asked state told after →
-          CreatesSo j plan w.tables.negotiated parent name mode kill flags w last w' →
+          CreatesSo j plan w.tables.negotiated ext.secctx parent name mode kill flags w last w' →
           Fills plan j.seat who asked (filled state w) told (filled after w')
       fills (answer.Refused errno) e v (inl r) = inl (inl (stayed_filled w w' state after g r.keeps))
-      fills (answer.Refused errno) e v (inr (inl m)) = inl (inr (true, news m.0 m.1 m.2))
+      fills (answer.Refused errno) e v (inr (inl (by_whom, asks, inl t))) =
+          inl (inr (inr (t.brings, bares by_whom asks t.made)))
+      fills (answer.Refused errno) e v (inr (inl (by_whom, asks, inr m))) =
+          inl (inr (inl (news by_whom asks m.0, names_new w w' state after parent name g m.0.named)))
       fills (answer.Refused errno) e v (inr (inr (dir, object, f, q, is, live, leads, inl z, end))) =
           let k = olds dir object (emptied_so plan j.seat kill flags) f q is live leads z.1 in
           inr ((k.0, k.1, inl k.2), none_new z.1.objects)
@@ -116,8 +130,10 @@ module _ (plan : Plan) (who : Context) (agreed : Negotiated) (j : Thread) (w : F
           let k = olds dir object whole f q is live leads z in inr ((k.0, k.1, inr k.2), none_new z.objects)
       fills (answer.Created entry handle options) e v (inl r) =
           absurd (not_created r.errno entry handle options (sym e ∙ r.is))
-      fills (answer.Created entry handle options) e v (inr (inl m)) =
-          inl (news m.0 m.1 m.2, told_new m.3)
+      fills (answer.Created entry handle options) e v (inr (inl (by_whom, asks, inl t))) =
+          absurd (not_created t.errno entry handle options (sym e ∙ t.is_refused))
+      fills (answer.Created entry handle options) e v (inr (inl (by_whom, asks, inr m))) =
+          inl (news by_whom asks m.0, told_new m.1)
         where
           agreed_there : after.agreed ≡ w.tables.negotiated
           agreed_there = created_agreed ∙ g.shows.agreed

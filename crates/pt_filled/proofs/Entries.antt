@@ -1,5 +1,5 @@
 -- Proof. `lookup` and `link`.
-use Rattle.std.proofs.Common.{inl, inr, ◌≡◌, ◌≢◌, ℕ, List, None, refl, sym, ap, subst, ◌∙◌}
+use Rattle.std.proofs.Common.{inl, inr, ◌≡◌, ◌≢◌, ℕ, List, None, refl, sym, ap, subst, ◌∙◌, arith}
 use Rattle.pt_host.specs.Call.{Call}
 use Rattle.pt_host.specs.declared.ids.Fd.{Fd}
 use Rattle.pt_host.specs.declared.op.KeptHostOp.TheVariants as call
@@ -21,6 +21,7 @@ use Rattle.pt_req.specs.declared.begun.BegunSession.{BegunSession}
 use Rattle.pt_req.specs.declared.plan.Plan.{Plan}
 use Rattle.pt_req.specs.declared.parts.looked.Looked.{Looked}
 use Rattle.pt_attr.specs.Requests.{link}
+use Rattle.pt_law.proofs.Givings.{live_count}
 use Rattle.pt_plain.specs.Plain.{PlainTree, Gives as GivesNumber}
 use Rattle.pt_plain.specs.Serves.{MakesEntry, Serves}
 use Rattle.pt_plain.proofs.Stilling.{IsStill}
@@ -92,7 +93,7 @@ module _ (plan : Plan) (who : Context) (j : Thread) (w : Full) (last : Answer) (
               g = b;
               on = d;
               numbers = refl;
-              tables = refl;
+              falls = λ n. omega arith;
               looked = l;
               tree = tree;
               later = later;
@@ -150,7 +151,7 @@ module _ (plan : Plan) (who : Context) (j : Thread) (w : Full) (last : Answer) (
               g = e;
               on = f;
               numbers = numbers;
-              tables = tables;
+              falls = λ n. (let x = ap (live_count n) tables in omega (arith, x));
               looked = l;
               tree = tree;
               later = later;

@@ -1,6 +1,9 @@
 -- Proof. Answers and contents that the plain file system refuses.
 use Rattle.std.proofs.Common.{◌≡◌, ◌≢◌, ◌<◌, ℕ, List, [], ◌∷◌, length, Bool, true, false, Option, Some, None, sym, ap}
-use Rattle.std.proofs.Common.{◌∙◌, arith, is_some, slice_get}
+use Rattle.std.proofs.Common.{◌∙◌, arith, is_some, slice_get, subst, refl, inl, inr}
+use Rattle.std.specs.Str.{bytes_eq}
+use Rattle.std.proofs.lemmas.Map.{update_same}
+use Rattle.std.proofs.lemmas.Slice.Eq.{bytes_eq-Decides}
 use Rattle.pt_host.specs.Contents.{ObjectContents}
 use Rattle.pt_host.specs.Tree.{Object}
 use Rattle.pt_host.specs.declared.ids.Errno.{Errno}
@@ -20,7 +23,7 @@ use Rattle.pt_fit.specs.Asker.{asker_in}
 use Rattle.pt_plain.specs.Plain.{Handled, handled_as, numbered_as, Numbered}
 use Rattle.pt_filled.specs.Contents.{FilledTree, is_file, keeps_set_id, overwritten, with_changed, uncapped}
 use Rattle.pt_filled.specs.Fills.{Fills}
-use Rattle.pt_filled.specs.New.{contents_made, in_context_if, next_object}
+use Rattle.pt_filled.specs.New.{contents_made, IsInContext, next_object}
 
 abbrev object_in : Option Handled → ℕ
 object_in None = 0
@@ -57,7 +60,7 @@ module _ (plan : Plan) (seat : HostSeat) (who : Context) (state after : FilledTr
       slice_get after.plain.tree.objects (next_object state) ≡ Some what → what.kind ≡ 8 →
       Fills plan seat who (request.Mkdir parent name mode umask ext) state (answer.Entry entry) after → ⊥
   another_kind parent name mode umask ext entry what is kind f =
-      let new = f.0.2.1 in
+      let new = f.0.4.1 in
       let same : what ≡ new.0 = some_same (sym is ∙ new.1) in
       let four = ap (λ (o : Object). o.kind) same ∙ new.2 in
       absurd (omega (arith, four, kind))
@@ -67,19 +70,57 @@ module _ (plan : Plan) (seat : HostSeat) (who : Context) (state after : FilledTr
 
   -- a device of somebody else
   another_owner : (parent : ℕ) (name : List ℕ) (mode rdev umask : ℕ) (ext : Extensions) (entry : Entry)
-      (asker : Identity) → ext.secctx ≡ None →
+      (asker : Identity) →
       asker_in plan seat who state.plain.agreed (request.Mknod parent name mode rdev umask ext) ≡ Some asker →
       (after.contents (next_object state)).uid ≢ asker.uid →
       Fills plan seat who (request.Mknod parent name mode rdev umask ext) state (answer.Entry entry) after → ⊥
-  another_owner parent name mode rdev umask ext entry asker bare is other f =
+  another_owner parent name mode rdev umask ext entry asker is other f =
       let made : ObjectContents = contents_made (request.Mknod parent name mode rdev umask ext) f.0.0 in
-      let owner = ap (λ (label : Option SecContext).
-      (in_context_if true plan state.plain.agreed label made).uid) bare in
-      other (ap (λ (c : ObjectContents). c.uid) f.0.2.1.3 ∙ owner
+      other (ap (λ (c : ObjectContents). c.uid) f.0.4.1.3 ∙ same_owner ext.secctx made f.0.2 f.0.3
       ∙ ap (λ (i : Identity). i.uid) (some_same (sym f.0.1 ∙ is)))
     where
       some_same : {one other : Identity} → Some one ≡ Some other → one ≡ other
       some_same e = cc
+
+      same_owner : (context : Option SecContext) (was it : ObjectContents) →
+          IsInContext plan state.plain.agreed context was it → it.uid ≡ was.uid
+      same_owner None was it k = ap (λ (c : ObjectContents). c.uid) k
+      same_owner (Some context) was it k = ap (λ (c : ObjectContents). c.uid) k.2
+
+  -- a directory without the context that the guest brings for it
+  another_context : (parent : ℕ) (name : List ℕ) (mode umask : ℕ) (ext : Extensions) (entry : Entry)
+      (context : SecContext) → ext.secctx ≡ Some context →
+      ((held : List ℕ) → (after.contents (next_object state)).xattrs held ≡ None) →
+      Fills plan seat who (request.Mkdir parent name mode umask ext) state (answer.Entry entry) after → ⊥
+  another_context parent name mode umask ext entry context brings bare f =
+      let made : ObjectContents = contents_made (request.Mkdir parent name mode umask ext) f.0.0 in
+      let c : IsInContext plan state.plain.agreed (Some context) made f.0.2 =
+      subst (λ (x : Option SecContext). IsInContext plan state.plain.agreed x made f.0.2) brings f.0.3 in
+      clash (sym (bare c.0) ∙ ap (λ (o : ObjectContents). o.xattrs c.0) f.0.4.1.3
+      ∙ ap (λ (o : ObjectContents). o.xattrs c.0) c.2
+      ∙ update_same bytes_eq made.xattrs c.0 (Some context.value) c.0 ((bytes_eq-Decides c.0 c.0).1 refl))
+    where
+      clash : ◌≡◌ {A = Option (List ℕ)} None (Some context.value) → ⊥
+      clash e = cc
+
+  -- a refused directory in its context, without its name
+  another_undoing : (parent : ℕ) (name : List ℕ) (mode umask : ℕ) (ext : Extensions) (errno : Errno) (held : List ℕ) →
+      next_object state < next_object after →
+      is_some ((after.contents (next_object state)).xattrs held) ≡ true →
+      ((dir : ℕ) → after.plain.tree.names dir name ≡ None) →
+      Fills plan seat who (request.Mkdir parent name mode umask ext) state (answer.Refused errno) after → ⊥
+  another_undoing parent name mode umask ext errno held more has gone (inl k) =
+      let same = k.1 in absurd (omega (arith, more, same))
+  another_undoing parent name mode umask ext errno held more has gone (inr (inl k)) =
+      clash (sym (gone k.1.0) ∙ k.1.2)
+    where
+      clash : None ≡ Some (next_object state) → ⊥
+      clash e = cc
+  another_undoing parent name mode umask ext errno held more has gone (inr (inr k)) =
+      clash (sym (ap (λ (c : ObjectContents). is_some (c.xattrs held)) k.1.2.1.3) ∙ has)
+    where
+      clash : false ≡ true → ⊥
+      clash e = cc
 
   -- attributes of another size
   another_size : (inode object count : ℕ) (attr : Attr) (valid : Timeout) →

@@ -1,6 +1,6 @@
 -- Proof. A lookup over the tree host: which object its number stands for, and what is told of it.
 use Rattle.std.proofs.Common.{◌≡◌, ◌≢◌, ◌<◌, ℕ, List, true, Option, Some, None, refl, sym, ap, subst, ◌∙◌, slice_get}
-use Rattle.std.proofs.Common.{inr}
+use Rattle.std.proofs.Common.{inr, ◌≤◌, arith}
 use Rattle.pt_host.specs.Tree.{Tree, Object, IsObject, IsOpenOn}
 use Rattle.pt_host.specs.declared.ids.Fd.{Fd}
 use Rattle.pt_host.specs.declared.ids.ObjIds.{ObjIds}
@@ -10,7 +10,6 @@ use Rattle.pt_host.specs.declared.op.KeptHostOp.TheVariants as call
 use Rattle.pt_host.specs.declared.reply.HostReply.TheVariants as host
 use Rattle.pt_host.specs.declared.reply.HostValue.TheVariants as value
 use Rattle.pt_tables.specs.Change.{Change}
-use Rattle.pt_tables.specs.Tables.{Tables}
 use Rattle.pt_tables.specs.declared.form.Negotiated.{Negotiated}
 use Rattle.pt_tables.specs.declared.form.RowForm.TheVariants.{File}
 use Rattle.pt_tables.specs.declared.reply.Resolved.{Resolved}
@@ -260,7 +259,7 @@ walk_look_up {G} j plan session parent name next w last w' n c out goes =
     opened directory a ra fd said b e mb kb cb = absurd (cc)
 
 -- The entry is of what the name has at the end, and tells what is there. The lookup began in the second world, where
--- numbers and counts are those of the first.
+-- numbers are those of the first, and counts may have fallen.
 pub record IsToldSo (plan : Plan) (w : Full) (agreed : Negotiated) (parent : ℕ) (name : List ℕ) (entry : Entry)
     (w' : Full) : Type 0 where
   pub e : Full
@@ -268,7 +267,7 @@ pub record IsToldSo (plan : Plan) (w : Full) (agreed : Negotiated) (parent : ℕ
   pub g : Full
   pub on : Full
   pub numbers : g.past.numbers ≡ e.past.numbers
-  pub tables : g.tables ≡ e.tables
+  pub falls : (n : ℕ) → live_count n g.tables ≤ live_count n e.tables
   pub looked : IsLooked plan agreed g on parent name entry
   pub tree : bare_tree (world_of w').tree ≡ bare_tree (world_of g).tree
   pub later : Keeps on w'
@@ -280,7 +279,7 @@ told_entry plan w w' state after agreed parent name entry s s' a t =
     let l = t.looked in (
       l.dir,
       stands_from w t.e state parent l.dir s t.calm.quiet (ap (λ f. f parent) (sym t.numbers) ∙ l.is_dir)
-          (subst (λ (z : Tables). 0 < live_count parent z) t.tables l.live),
+          (let a = t.falls parent in let b = l.live in omega (arith, a, b)),
       (
         l.object,
         ap (λ (z : Tree). z.names l.dir name) (s'.tree ∙ t.tree) ∙ l.leads,

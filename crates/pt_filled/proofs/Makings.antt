@@ -2,19 +2,24 @@
 use Rattle.std.specs.Prelude.{◌⊎◌}
 use Rattle.std.specs.List.{list_any}
 use Rattle.std.proofs.Common.{inl, inr, [], ◌∷◌, ◌≡◌, ◌≢◌, ℕ, List, Bool, true, false, Option, Some, None, refl, ap}
-use Rattle.std.proofs.Common.{subst, ◌∙◌}
+use Rattle.std.proofs.Common.{sym, subst, ◌∙◌, length, arith}
 use Rattle.pt_host.specs.Call.{Call}
 use Rattle.pt_host.specs.Contents.{ObjectContents}
 use Rattle.pt_host.specs.Errno.{einval, eperm}
+use Rattle.pt_host.specs.LawfulTree.{TreeChanges}
+use Rattle.pt_host.specs.Names.{MakesObject}
+use Rattle.pt_host.specs.Tree.{Tree, Object, IsOpenOn, OfFd}
 use Rattle.pt_host.specs.declared.ids.Errno.{Errno}
 use Rattle.pt_host.specs.declared.ids.Fd.{Fd}
 use Rattle.pt_host.specs.declared.reply.HostValue.{HostValue}
 use Rattle.pt_host.specs.declared.reply.HostReply.{HostReply}
 use Rattle.pt_host.specs.declared.op.KeptHostOp.TheVariants as call
 use Rattle.pt_host.specs.declared.reply.HostReply.TheVariants as host
+use Rattle.pt_host.specs.declared.reply.HostValue.TheVariants as value
 use Rattle.pt_creds.specs.Identity.{Credentials, override_cap}
 use Rattle.pt_creds.specs.Steps.{cred_steps}
 use Rattle.pt_tables.specs.declared.form.Negotiated.{Negotiated}
+use Rattle.pt_tables.specs.declared.reply.Resolved.{Resolved}
 use Rattle.pt_iface.specs.declared.answer.Answer.{Answer}
 use Rattle.pt_iface.specs.declared.entry.Entry.{Entry}
 use Rattle.pt_iface.specs.declared.request.SecContext.{SecContext}
@@ -28,7 +33,7 @@ use Rattle.pt_frame.specs.declared.hold.Hold.TheVariants as hold
 use Rattle.pt_req.specs.Steps.{begin, ok_in, open_scope}
 use Rattle.pt_req.specs.Parts.{look_up, file_of}
 use Rattle.pt_req.specs.Asker.{as_asker, asker_of, cap_raised, egid_set, euid_set, group_set, umask_of, under_umask}
-use Rattle.pt_req.specs.Attributes.{Label, host_label}
+use Rattle.pt_req.specs.Attributes.{Label}
 use Rattle.pt_req.specs.declared.begun.BegunSession.{BegunSession}
 use Rattle.pt_req.specs.declared.plan.Plan.{Plan}
 use Rattle.pt_req.specs.declared.parts.looked.Looked.{Looked}
@@ -36,19 +41,22 @@ use Rattle.pt_attr.specs.Making.{ObjectAsked, is_nul, labelled_at, make_object, 
 use Rattle.pt_attr.specs.Steps.{make}
 use Rattle.pt_law.specs.World.{World, fd_of}
 use Rattle.pt_law.specs.Under.{Identity, identity_of}
+use Rattle.pt_law.proofs.Givings.{live_count}
+use Rattle.pt_law.proofs.Knowing.{one_object}
 use Rattle.pt_plain.proofs.Coming.{Law, IsSeats}
 use Rattle.pt_plain.proofs.Showing.{bare_tree}
 use Rattle.pt_plain.proofs.Making.{checked, make_named, making_call, undoing_call, What}
 use Rattle.pt_plain.proofs.Stilling.{IsStillCall, NotOk}
-use Rattle.pt_filled.specs.New.{fresh}
-use Rattle.pt_filled.proofs.Hosting.{Full, Keeps, Thread, world_of, Bared, bared_none, bared_on}
+use Rattle.pt_filled.proofs.Hosting.{Full, Keeps, Thread, world_of, Bared, bared_none, bared_on, objects_at}
+use Rattle.pt_filled.proofs.Labelling.{IsLabelOf, IsLeftBare, IsMadeWhole, IsUndoing, Labelled, led_new, left_bare}
+use Rattle.pt_filled.proofs.Labelling.{walk_label, walk_labelled_at}
 use Rattle.pt_filled.proofs.Parts.{At, Calm, IsRefused, comes_at, idles_calm, keeps_on, leaves_keeps, refused_from}
 use Rattle.pt_filled.proofs.Parts.{walk_begin, bared_calm, calm_on, walk_scope, walk_named, At.{by}, refused_at}
-use Rattle.pt_filled.proofs.Parts.{refused_with, walk_if, walk_resolve, walk_file, walk_try}
+use Rattle.pt_filled.proofs.Parts.{refused_with, walk_if, walk_resolve, walk_file, walk_try, IsResolved}
 use Rattle.pt_filled.proofs.Threading.{Comes, Makes, comes_law}
 use Rattle.pt_filled.proofs.Looking.{IsLooked, IsToldSo, walk_look_up}
 use Rattle.pt_filled.proofs.Entries.{looked_tree}
-use Rattle.pt_filled.proofs.News.{made_from, made_then, MadeAs, new_bytes, new_kind, new_mode, new_rdev, was_made}
+use Rattle.pt_filled.proofs.News.{HasMade, made_from, made_then, new_contents, new_kind, was_made}
 
 -- the seat of whoever asks is seen in no world
 module _ {G : Type 0} (j : Thread) (w : Full) (last : Answer) (w' : Full) (n : last ≢ answer.NoMemory)
@@ -164,102 +172,196 @@ making_seat (What.Directory mode) dir name j w mid told m = m.2.as_asked
 making_seat (What.Node mode rdev) dir name j w mid told m = m.2.as_asked
 making_seat (What.Link target) dir name j w mid told m = m.2.as_asked
 
+is_undoing : (what : What) (dir : Fd) (name : List ℕ) → IsUndoing (undoing_call what dir name)
+is_undoing (What.Directory mode) dir name = tt
+is_undoing (What.Node mode rdev) dir name = tt
+is_undoing (What.Link target) dir name = tt
+
+-- the object was made in some directory
+abbrev MakesIn : Tree → Fd → List ℕ → Tree → Type 0
+MakesIn tree dir name after = OfFd tree dir (λ at. MakesObject tree at name after)
+
+making_names : (what : What) (dir : Fd) (name : List ℕ) (told : HostValue) (tree after : Tree) →
+    TreeChanges tree (making_call what dir name) (host.Ok told) after → MakesIn tree dir name after
+making_names (What.Directory mode) dir name value.Unit tree after c = c
+making_names (What.Node mode rdev) dir name value.Unit tree after c = c
+making_names (What.Link target) dir name value.Unit tree after c = c
+making_names (What.Directory mode) dir name told tree after c = absurd c.0
+making_names (What.Node mode rdev) dir name told tree after c = absurd c.0
+making_names (What.Link target) dir name told tree after c = absurd c.0
+
+-- the directory is open there still, and the name leads to what was made
+record IsPlaced (w h : Full) (dir : Fd) (at : ℕ) (name : List ℕ) : Type 0 where
+  open_on : IsOpenOn (world_of h).tree dir at
+  leads : (world_of h).tree.names at name ≡ Some (length (objects_at w))
+
+placed : (w e f h : Full) (dir : Fd) (at : ℕ) (name : List ℕ) → objects_at e ≡ objects_at w →
+    IsOpenOn (world_of e).tree dir at → MakesIn (world_of e).tree dir name (world_of f).tree →
+    world_of h ≡ world_of f → IsPlaced w h dir at name
+placed w e f h dir at name same o m b = record {
+  open_on = subst (λ (v : World). IsOpenOn v.tree dir at) (sym b)
+      (subst (λ (t : Tree). IsOpenOn t dir at) (sym m.2.makes) o);
+  leads = ap (λ (v : World). v.tree.names at name) b
+      ∙ ap (λ (d : ℕ). (world_of f).tree.names d name) (one_object (world_of e).tree dir at m.0 o m.1)
+      ∙ led_new (world_of e).tree (world_of f).tree m.0 name m.2
+      ∙ ap (λ (l : List Object). Some (length l)) same;
+}
+
+-- it was refused, or answered with such an entry
+abbrev pub EndsSo : (Entry → Type 0) → Answer → Type 0
+EndsSo P last = ((errno : Errno) × (last ≡ answer.Refused errno)) ⊎ ((entry : Entry) × (last ≡ answer.Entry entry) × P
+    entry)
+
 -- What a making leaves of contents, however it ends.
-abbrev pub MakesSo : Thread → Plan → Negotiated → ℕ → List ℕ → What → Full → Answer → Full → Type 0
-MakesSo j plan agreed parent name what w last w' =
+abbrev pub MakesSo :
+    Thread → Plan → Negotiated → Option SecContext → ℕ → List ℕ → What → Full → Answer → Full → Type 0
+MakesSo j plan agreed brought parent name what w last w' =
     IsRefused w last w'
-    ⊎ ((by_whom : Identity) × (j.role.asker ≡ Some by_whom) × MadeAs w w' by_whom what
-    × (((errno : Errno) × (last ≡ answer.Refused errno))
-    ⊎ ((entry : Entry) × (last ≡ answer.Entry entry) × IsToldSo plan w agreed parent name entry w')))
+    ⊎ ((by_whom : Identity) × (j.role.asker ≡ Some by_whom)
+    × (IsLeftBare brought w last w' (new_kind what) (new_contents by_whom what)
+    ⊎ (IsMadeWhole plan agreed brought w w' (new_kind what) (new_contents by_whom what) parent name
+    × EndsSo (λ entry. IsToldSo plan w agreed parent name entry w') last)))
 
 pub makes_so : (plan : Plan) (asked : ObjectAsked) (what : What) (j : Thread) (w : Full) (last : Answer) (w' : Full) →
-    last ≢ answer.NoMemory → asked.ext.secctx ≡ None → Law (world_of w) →
+    last ≢ answer.NoMemory → Law (world_of w) →
     At j (begin (make_named plan j.seat asked what)) w last w' →
-    MakesSo j plan w.tables.negotiated asked.parent asked.name what w last w'
+    MakesSo j plan w.tables.negotiated asked.ext.secctx asked.parent asked.name what w last w'
 unfolding make_object
-makes_so plan asked what j w last w' n bare l c =
+makes_so plan asked what j w last w' n l c =
     walk_begin j _ w last w' n c out (λ session b q z k.
     walk_named j asked.name _ b last w' k (λ r. out (refused_from w b last w' q.keeps r)) (λ k.
     walk_checked j what _ b last w' k (λ r. out (refused_from w b last w' q.keeps r)) (λ k.
     walk_resolve j asked.parent _ b last w' n k (λ r. out (refused_from w b last w' q.keeps r)) (λ directory d rd k.
     let qd = calm_on w b d q rd.calm in
-    walk_file j directory.form (in_dir session None) d last w' (subst (λ (x : Option SecContext).
-    At j (host_label plan session.agreed x (λ label. file_of directory.form (in_dir session label))) d last w') bare k)
-    (λ k.
+    walk_label j plan session.agreed asked.ext.secctx (λ label. file_of directory.form (in_dir session label)) d last
+    w' k (λ label il k.
+    walk_file j directory.form (in_dir session label) d last w' k (λ k.
     walk_asker j d last w' n (λ r. out (refused_from w d last w' qd.keeps r))
     (asker_of plan session asked.who asked.ext.sup_gid) (umask_of session asked.umask)
-    (makes session None (fd_of directory.form))
-    (comes_law j (in_dir session None (fd_of directory.form)) d last w' (comes_at k)) k (λ e x k.
+    (makes session label (fd_of directory.form))
+    (comes_law j (in_dir session label (fd_of directory.form)) d last w' (comes_at k)) k (λ e x k.
     let qe = calm_on w d e qd (bared_calm j d e x) in
     walk_make j what (fd_of directory.form) asked.name _ e last w' n k
     (λ r. out (refused_from w e last w' qe.keeps r)) (λ told f h m y k.
-    made_behind session (fd_of directory.form) e f h told qe z m y k)))))))
+    made_behind session label directory b d e f h told
+    (subst (λ (a : Negotiated). IsLabelOf plan a asked.ext.secctx label) z il) rd q x qe z m y k))))))))
   where
-    out : IsRefused w last w' → MakesSo j plan w.tables.negotiated asked.parent asked.name what w last w'
+    brought : Option SecContext
+    brought = asked.ext.secctx
+
+    Goal : Type 0
+    Goal = MakesSo j plan w.tables.negotiated brought asked.parent asked.name what w last w'
+
+    out : IsRefused w last w' → Goal
     out r = inl r
 
     entry : Looked → RequestTree
     entry looked = Gives (answer.Entry looked.entry)
 
+    looks : BegunSession → RequestTree
+    looks session = look_up plan session asked.parent asked.name entry
+
     makes : BegunSession → Option Label → Fd → RequestTree
     makes session label dir =
         make (making_call what dir asked.name) (labelled_at dir asked.name (undoing_call what dir asked.name) label
-        (look_up plan session asked.parent asked.name entry))
+        (looks session))
 
     in_dir : BegunSession → Option Label → Fd → RequestTree
     in_dir session label dir =
         as_asker j.seat (asker_of plan session asked.who asked.ext.sup_gid)
         (under_umask (umask_of session asked.umask) (makes session label dir))
 
-    made_behind : (session : BegunSession) (dir : Fd) (e f h : Full) (told : HostValue) → Calm w e →
+    made_behind : (session : BegunSession) (label : Option Label) (directory : Resolved) (b d e f h : Full)
+        (told : HostValue) → IsLabelOf plan w.tables.negotiated brought label →
+        IsResolved j b d asked.parent directory → Calm w b → Bared j d e → Calm w e →
         session.agreed ≡ w.tables.negotiated →
-        Makes j e (Calls (making_call what dir asked.name)) (Host (host.Ok told)) f → Bared j f h →
-        At j (look_up plan session asked.parent asked.name entry) h last w' →
-        MakesSo j plan w.tables.negotiated asked.parent asked.name what w last w'
-    made_behind session dir e f h told qe z m x c =
-        let tree = looked_tree j plan session asked.parent asked.name h last w' c in
-        walk_look_up j plan session asked.parent asked.name entry h last w' n c
-        (λ r. made_end r.keeps (inl (r.errno, r.is)))
-        (λ looked seen d l ids k. told_end looked d l (comes_at k) tree)
+        Makes j e (Calls (making_call what (fd_of directory.form) asked.name)) (Host (host.Ok told)) f → Bared j f h →
+        At j (labelled_at (fd_of directory.form) asked.name (undoing_call what (fd_of directory.form) asked.name) label
+        (looks session)) h last w' → Goal
+    made_behind session label directory b d e f h told il rd q x qe z m y c =
+        walk_labelled_at Goal plan w.tables.negotiated j w h (new_kind what) is there last w' n dir rd.there.object
+        asked.name (undoing_call what dir asked.name) brought label il (is_undoing what dir asked.name) (looks session)
+        place.open_on place.leads c
+        (λ r b. inr (who_is, asker, inl (left_bare brought w h last w' (new_kind what) is there b r)))
+        looked_behind
       where
+        dir : Fd
+        dir = fd_of directory.form
+
         who_is : Identity
         who_is = identity_of e.seat
 
+        asker : j.role.asker ≡ Some who_is
+        asker = making_seat what dir asked.name j e f told m
+
         is : ObjectContents
-        is = fresh who_is (new_mode who_is what) (new_rdev what) (new_bytes what)
+        is = new_contents who_is what
 
-        made_end : Keeps h w' → (((errno : Errno) × (last ≡ answer.Refused errno))
-            ⊎ ((entry : Entry) × (last ≡ answer.Entry entry)
-            × IsToldSo plan w w.tables.negotiated asked.parent asked.name entry w')) →
-            MakesSo j plan w.tables.negotiated asked.parent asked.name what w last w'
-        made_end k end =
-            let first = made_from w e f (new_kind what) is qe.keeps (was_made j e f what dir asked.name told m.2) in
-            inr (
-              who_is,
-              making_seat what dir asked.name j e f told m,
-              made_then w f w' (new_kind what) is first (keeps_on f h w' x.keeps k),
-              end,
-            )
+        there : HasMade w h (new_kind what) is
+        there = made_then w f h (new_kind what) is
+            (made_from w e f (new_kind what) is qe.keeps (was_made j e f what dir asked.name told m.2)) y.keeps
 
-        told_end : (looked : Looked) (d : Full) →
-            IsLooked plan session.agreed h d asked.parent asked.name looked.entry → Comes j (entry looked) d last w' →
-            bare_tree (world_of w').tree ≡ bare_tree (world_of h).tree →
-            MakesSo j plan w.tables.negotiated asked.parent asked.name what w last w'
-        told_end looked d l k same =
-            let later = (idles_calm j d w' k.1).keeps in
+        dir_open : IsOpenOn (world_of e).tree dir rd.there.object
+        dir_open = subst (λ (t : Tree). IsOpenOn t dir rd.there.object)
+            (sym (ap (λ (v : World). v.tree) x.world ∙ rd.there.tree)) rd.there.open_on
+
+        place : IsPlaced w h dir rd.there.object asked.name
+        place = placed w e f h dir rd.there.object asked.name qe.keeps.objects dir_open
+            (making_names what dir asked.name told (world_of e).tree (world_of f).tree
+            m.2.goes.made.0.0.trees.changes) y.world
+
+        made_end : (g : Full) → Labelled plan w.tables.negotiated brought w h g (new_kind what) is → Keeps g w' →
+            bare_tree (world_of w').tree ≡ bare_tree (world_of g).tree →
+            EndsSo (λ entry. IsToldSo plan w w.tables.negotiated asked.parent asked.name entry w') last → Goal
+        made_end g made kept tree end = inr (
+          who_is,
+          asker,
+          inr (
+            record {
+              is = made.is;
+              in_context = made.in_context;
+              made = made_then w g w' (new_kind what) made.is made.made kept;
+              named = record {
+                e = b;
+                calm = q;
+                dir = rd.there.object;
+                is_dir = rd.there.is_object;
+                live = rd.there.live;
+                leads = ap (λ (t : Tree). t.names rd.there.object asked.name) (tree ∙ made.quiet.still.tree)
+                    ∙ place.leads;
+              };
+            },
+            end,
+          ),
+        )
+
+        told_end : (g : Full) → Labelled plan w.tables.negotiated brought w h g (new_kind what) is → (looked : Looked)
+            (on : Full) → IsLooked plan session.agreed g on asked.parent asked.name looked.entry →
+            Comes j (entry looked) on last w' → bare_tree (world_of w').tree ≡ bare_tree (world_of g).tree → Goal
+        told_end g made looked on l k tree =
+            let later = (idles_calm j on w' k.1).keeps in
             let kept = making_keeps what dir asked.name j e f told m in
-            made_end (keeps_on h d w' l.keeps later) (inr (
+            made_end g made (keeps_on g on w' l.keeps later) tree (inr (
               looked.entry,
               k.0,
               record {
                 e = e;
                 calm = qe;
-                g = h;
-                on = d;
-                numbers = ap (λ (v : World). v.past.numbers) x.world ∙ kept.0;
-                tables = ap (λ (v : World). v.tables) x.world ∙ kept.1;
-                looked = subst (λ (a : Negotiated). IsLooked plan a h d asked.parent asked.name looked.entry) z l;
-                tree = same;
+                g = g;
+                on = on;
+                numbers = made.quiet.still.past ∙ ap (λ (v : World). v.past.numbers) y.world ∙ kept.0;
+                falls = λ n. (let a = made.quiet.falls n in
+                    let b = ap (live_count n) (ap (λ (v : World). v.tables) y.world ∙ kept.1) in omega (arith, a, b));
+                looked = subst (λ (a : Negotiated). IsLooked plan a g on asked.parent asked.name looked.entry) z l;
+                tree = tree;
                 later = later;
               },
             ))
+
+        looked_behind : (g : Full) → Labelled plan w.tables.negotiated brought w h g (new_kind what) is →
+            At j (looks session) g last w' → Goal
+        looked_behind g made c =
+            let tree = looked_tree j plan session asked.parent asked.name g last w' c in
+            walk_look_up j plan session asked.parent asked.name entry g last w' n c
+            (λ r. made_end g made r.keeps tree (inl (r.errno, r.is)))
+            (λ looked seen on l ids k. told_end g made looked on l (comes_at k) tree)

@@ -341,8 +341,11 @@ new_bytes (What.Directory mode) = []
 new_bytes (What.Node mode rdev) = []
 new_bytes (What.Link target) = target
 
+abbrev pub new_contents : Identity → What → ObjectContents
+new_contents by what = fresh by (new_mode by what) (new_rdev what) (new_bytes what)
+
 abbrev pub MadeAs : Full → Full → Identity → What → Type 0
-MadeAs w on by what = HasMade w on (new_kind what) (fresh by (new_mode by what) (new_rdev what) (new_bytes what))
+MadeAs w on by what = HasMade w on (new_kind what) (new_contents by what)
 
 pub was_made : (j : Thread) (w on : Full) (what : What) (dir : Fd) (name : List ℕ) (told : HostValue) →
     Steps j w (made (Calls (making_call what dir name)) (Host (host.Ok told))) on →

@@ -111,7 +111,7 @@ fits_checks file through name bytes flags there e =
     fits flags there (does_not_serve file through) ((length name == 0) || nat_lt xattr_name_max (length name))
     (nat_lt xattr_value_max (length bytes)) (nat_lt 2 flags) ebadf erange e2big einval eexist enodata e
 
-was_set : (j : Thread) (w on : Full) (fd : Fd) (through : Bool) (name bytes : List ℕ) (flags : ℕ) (told : HostValue)
+pub was_set : (j : Thread) (w on : Full) (fd : Fd) (through : Bool) (name bytes : List ℕ) (flags : ℕ) (told : HostValue)
     (object : ℕ) → Steps j w (made (Calls (call.SetXattr fd through name bytes flags)) (Host (host.Ok told))) on →
     IsOpenOn (tree_of w.state) fd object →
     IsFit flags ((contents_at w object).xattrs name)

@@ -31,7 +31,7 @@ use Rattle.pt_plain.specs.Plain.{PlainTree, OfNumber, OfHandle}
 use Rattle.pt_filled.specs.Contents.{FilledTree, AllBecome, AllStay, with_changed, Becomes, is_file, keeps_set_id}
 use Rattle.pt_filled.specs.Contents.{valued, uncapped, uncapped_if, overwritten, lengthened, start_of, truncates}
 use Rattle.pt_filled.specs.Contents.{emptied, sgid_taken, mode_set, sets_owner, owner_set, size_set}
-use Rattle.pt_filled.specs.New.{fresh, next_object, Makes, MakesAsked}
+use Rattle.pt_filled.specs.New.{context_of, fresh, next_object, Makes, MakesAsked, MakesBare}
 use Rattle.pt_filled.specs.Told.{TellsAttr, NamesEntry, TellsFs, OfName, TellsValue, TellsNames, TellsListing}
 
 -- ---- openings
@@ -140,11 +140,18 @@ IsFit flags there = (flags ≡ 1 → there ≡ None) × (flags ≡ 2 → is_some
 
 -- ---- the requests
 
--- A refused making leaves nothing new, or what it makes, perhaps without its context.
-abbrev pub LeavesNew : Plan → HostSeat → Context → Request → FilledTree → FilledTree → Type 0
-LeavesNew plan seat who asked state after =
+-- the name leads to what is new
+abbrev pub NamesNew : FilledTree → ℕ → List ℕ → FilledTree → Type 0
+NamesNew state parent name after =
+    OfNumber state.plain parent (λ dir. after.plain.tree.names dir name ≡ Some (next_object state))
+
+-- A refused making leaves nothing new; or what it makes, under its name; or that without the context which the guest
+-- brings, and then its name may be gone again.
+abbrev pub LeavesNew : Plan → HostSeat → Context → Request → ℕ → List ℕ → FilledTree → FilledTree → Type 0
+LeavesNew plan seat who asked parent name state after =
     (AllStay state after × (next_object after ≡ next_object state))
-    ⊎ ((labelled : Bool) × MakesAsked plan seat who asked labelled state after)
+    ⊎ (MakesAsked plan seat who asked state after × NamesNew state parent name after)
+    ⊎ ((is_some (context_of asked) ≡ true) × MakesBare plan seat who asked state after)
 
 -- What a refused request leaves: what it did before it was refused.
 abbrev pub FillsRefused : Plan → HostSeat → Context → Request → FilledTree → FilledTree → Type 0
@@ -154,14 +161,14 @@ FillsRefused plan seat who (request.Open inode kill flags) state after =
 FillsRefused plan seat who (request.OpenDir inode flags) state after =
     AllStay state after ⊎ OfNumber state.plain inode (λ object. IsOpenedDir plan flags state object after)
 FillsRefused plan seat who (request.Create parent name mode kill flags umask ext) state after =
-    LeavesNew plan seat who (request.Create parent name mode kill flags umask ext) state after
+    LeavesNew plan seat who (request.Create parent name mode kill flags umask ext) parent name state after
     ⊎ (OpensNamedPartly plan seat parent name kill flags state after × (next_object after ≡ next_object state))
 FillsRefused plan seat who (request.Mkdir parent name mode umask ext) state after =
-    LeavesNew plan seat who (request.Mkdir parent name mode umask ext) state after
+    LeavesNew plan seat who (request.Mkdir parent name mode umask ext) parent name state after
 FillsRefused plan seat who (request.Mknod parent name mode rdev umask ext) state after =
-    LeavesNew plan seat who (request.Mknod parent name mode rdev umask ext) state after
+    LeavesNew plan seat who (request.Mknod parent name mode rdev umask ext) parent name state after
 FillsRefused plan seat who (request.Symlink target parent name ext) state after =
-    LeavesNew plan seat who (request.Symlink target parent name ext) state after
+    LeavesNew plan seat who (request.Symlink target parent name ext) parent name state after
 FillsRefused plan seat who (request.Write inode handle offset bytes delayed kill flags) state after =
     AllStay state after
     ⊎ OfHandle state.plain handle inode (λ object. Becomes state object (uncapped plan.capability) after)
@@ -183,18 +190,18 @@ Fills plan seat who (request.Link inode newparent newname) state (answer.Entry e
     AllStay state after × NamesEntry plan state newparent newname entry after
 -- makings
 Fills plan seat who (request.Mkdir parent name mode umask ext) state (answer.Entry entry) after =
-    MakesAsked plan seat who (request.Mkdir parent name mode umask ext) true state after
+    MakesAsked plan seat who (request.Mkdir parent name mode umask ext) state after
     × NamesEntry plan state parent name entry after
 Fills plan seat who (request.Mknod parent name mode rdev umask ext) state (answer.Entry entry) after =
-    MakesAsked plan seat who (request.Mknod parent name mode rdev umask ext) true state after
+    MakesAsked plan seat who (request.Mknod parent name mode rdev umask ext) state after
     × NamesEntry plan state parent name entry after
 Fills plan seat who (request.Symlink target parent name ext) state (answer.Entry entry) after =
-    MakesAsked plan seat who (request.Symlink target parent name ext) true state after
+    MakesAsked plan seat who (request.Symlink target parent name ext) state after
     × NamesEntry plan state parent name entry after
 -- a file is made, or the one that has the name is opened, and told as it was before
 Fills plan seat who (request.Create parent name mode kill flags umask ext) state (answer.Created entry handle options)
     after =
-    (MakesAsked plan seat who (request.Create parent name mode kill flags umask ext) true state after
+    (MakesAsked plan seat who (request.Create parent name mode kill flags umask ext) state after
     × NamesEntry plan state parent name entry after)
     ⊎ (OpensNamed plan seat parent name kill flags state after × NamesEntry plan state parent name entry state)
 Fills plan seat who (request.Open inode kill flags) state (answer.Opened handle options) after =

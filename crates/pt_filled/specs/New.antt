@@ -1,6 +1,6 @@
 -- Believed. New objects: what each making makes, and for whom. After mkdir(2), mknod(2), symlink(2), open(2), umask(2).
-use Rattle.std.specs.Prelude.{◌≡◌, ℕ, ◌-◌, ◌/◌, ◌%◌, ◌^◌, ◌==◌, Bool, true, false, if◌then◌else◌, bit_and, List, []}
-use Rattle.std.specs.Prelude.{length, Option, Some, None, slice_get}
+use Rattle.std.specs.Prelude.{◌≡◌, ℕ, ◌-◌, ◌/◌, ◌%◌, ◌^◌, ◌==◌, if◌then◌else◌, bit_and, List, [], length, Option}
+use Rattle.std.specs.Prelude.{Some, None, slice_get}
 use Rattle.pt_host.specs.Contents.{ObjectContents, no_contents}
 use Rattle.pt_host.specs.Tree.{Object}
 use Rattle.pt_host.specs.declared.seat.HostSeat.{HostSeat}
@@ -60,22 +60,21 @@ context_of (request.Symlink target parent name ext) = ext.secctx
 context_of (request.Create parent name mode kill flags umask ext) = ext.secctx
 context_of asked = None
 
--- it has its context, by the host's name
-abbrev pub named_value : Option (List ℕ) → List ℕ → ObjectContents → ObjectContents
-named_value None value was = was
-named_value (Some name) value was = valued name (Some value) was
+-- The context is an extended attribute of what is made, by the host's name, where the guest may use its own.
+abbrev pub IsInContext : Plan → Negotiated → Option SecContext → ObjectContents → ObjectContents → Type 0
+IsInContext plan agreed None was is = is ≡ was
+IsInContext plan agreed (Some context) was is =
+    (held : List ℕ) × (name_held plan agreed context.name ≡ Some held) × (is ≡ valued held (Some context.value) was)
 
-abbrev pub in_context : Plan → Negotiated → Option SecContext → ObjectContents → ObjectContents
-in_context plan agreed None was = was
-in_context plan agreed (Some label) was = named_value (name_held plan agreed label.name) label.value was
-
-abbrev pub in_context_if : Bool → Plan → Negotiated → Option SecContext → ObjectContents → ObjectContents
-in_context_if true plan agreed label was = in_context plan agreed label was
-in_context_if false plan agreed label was = was
-
--- The request makes what it asks for, owned by whoever asks, with its context or before it gets that.
-abbrev pub MakesAsked : Plan → HostSeat → Context → Request → Bool → FilledTree → FilledTree → Type 0
-MakesAsked plan seat who asked labelled state after =
+-- The request makes what it asks for, owned by whoever asks, and in no context yet.
+abbrev pub MakesBare : Plan → HostSeat → Context → Request → FilledTree → FilledTree → Type 0
+MakesBare plan seat who asked state after =
     (by : Identity) × (asker_in plan seat who state.plain.agreed asked ≡ Some by)
-    × Makes state (kind_made asked)
-    (in_context_if labelled plan state.plain.agreed (context_of asked) (contents_made asked by)) after
+    × Makes state (kind_made asked) (contents_made asked by) after
+
+-- And this in the context that the guest brings for it.
+abbrev pub MakesAsked : Plan → HostSeat → Context → Request → FilledTree → FilledTree → Type 0
+MakesAsked plan seat who asked state after =
+    (by : Identity) × (asker_in plan seat who state.plain.agreed asked ≡ Some by) × (is : ObjectContents)
+    × IsInContext plan state.plain.agreed (context_of asked) (contents_made asked by) is
+    × Makes state (kind_made asked) is after
