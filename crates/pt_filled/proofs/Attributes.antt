@@ -35,9 +35,12 @@ use Rattle.pt_fit.specs.Asker.{role_in}
 use Rattle.pt_plain.specs.Plain.{PlainTree, Stands}
 use Rattle.pt_plain.proofs.Showing.{bare_tree}
 use Rattle.pt_plain.proofs.Walking.{Quiet, quiet_on}
-use Rattle.pt_filled.specs.Fills.{Fills, OfTarget, set_to, Sets, sized, Stage, Stage.{Bared as BaredStage}}
+use Rattle.pt_filled.specs.Accesses.{MayWriteBy, writes}
+use Rattle.pt_filled.specs.Fills.{Fills, MaySize, OfTarget, set_to, Sets, sized, Stage}
+use Rattle.pt_filled.specs.Fills.{Stage.{Bared as BaredStage}}
 use Rattle.pt_filled.specs.Fills.{Stage.{Disowned, Moded, Owned, Sized, Untouched}}
 use Rattle.pt_filled.specs.Contents.{keeps_set_id, AllBecome}
+use Rattle.pt_filled.proofs.Descriptors.{access_in, fds_on}
 use Rattle.pt_filled.proofs.Effects.{was_seen}
 use Rattle.pt_filled.proofs.Filling.{Between, filled, IsFilledBy, refused_fills, become, file_there, stands_from}
 use Rattle.pt_filled.proofs.Filling.{handle_from, stat_then}
@@ -69,6 +72,10 @@ module _ (plan : Plan) (who : Context) (agreed : Negotiated) (inode : ℕ) (hand
   out r = refused_fills plan j.seat who (request.SetAttr inode handle valid attr) w w' state after last g.shows
       (λ k. inl k) r
 
+  -- the size is set by a handle that may be used to write
+  abbrev MayBe : Stage → Type 0
+  MayBe stage = MaySize (filled state w) handle valid stage
+
   sets_so : (object target : ℕ) → Stands state inode object → Aims object target → (stage : Stage) →
       Alters w w' (set_at object target stage) →
       Sets plan j.seat inode handle valid attr (filled state w) stage (filled after w')
@@ -79,24 +86,25 @@ module _ (plan : Plan) (who : Context) (agreed : Negotiated) (inode : ℕ) (hand
         (become w w' state after (set_at object target stage) g.shows al),
   )
 
-  front : (object target : ℕ) → Stands state inode object → Aims object target → (stage : Stage) → (x : Full) →
-      Alters w x (set_at object target stage) → IsRefused x last w' → Whole
-  front object target st of stage x al r =
+  front : (object target : ℕ) → Stands state inode object → Aims object target → (stage : Stage) → MayBe stage →
+      (x : Full) → Alters w x (set_at object target stage) → IsRefused x last w' → Whole
+  front object target st of stage may x al r =
       subst (λ (x : Answer). Fills plan j.seat who (request.SetAttr inode handle valid attr) (filled state w) x
       (filled after w')) (sym r.is) (inr (
         stage,
         sets_so object target st of stage (alters_then w x w' (set_at object target stage) al r.keeps),
+        may,
       ))
 
   -- at last the attributes are told
-  told_at : (object target : ℕ) → Stands state inode object → Aims object target → (v : Full) →
+  told_at : (object target : ℕ) → Stands state inode object → Aims object target → MayBe Sized → (v : Full) →
       Quiet (world_of w) (world_of v) → Alters w v (set_at object target Sized) →
       At j (tell_attr plan inode) v last w' → Whole
-  told_at object target st of v qv al c =
-      walk_resolve j inode _ v last w' n c (λ r. front object target st of Sized v al r) (λ row u ru cu.
+  told_at object target st of may v qv al c =
+      walk_resolve j inode _ v last w' n c (λ r. front object target st of Sized may v al r) (λ row u ru cu.
       walk_file j row.form _ u last w' cu (λ cf.
       walk_stat j (fd_of row.form) _ u last w' n cf
-      (λ r. front object target st of Sized v al (refused_from v u last w' ru.calm.keeps r)) (λ told t m ct.
+      (λ r. front object target st of Sized may v al (refused_from v u last w' ru.calm.keeps r)) (λ told t m ct.
       answered row u t told ru m (comes_at ct))))
     where
       answered : (row : Resolved) (u t : Full) (told : Stat) → IsResolved j v u inode row →
@@ -114,6 +122,7 @@ module _ (plan : Plan) (who : Context) (agreed : Negotiated) (inode : ℕ) (hand
           subst (λ (x : Answer). Fills plan j.seat who (request.SetAttr inode handle valid attr) (filled state w) x
           (filled after w')) (sym k.0) (
             sets_so object target st of Sized final,
+            may,
             (
               ru.there.object,
               stands_from w v state inode ru.there.object g.shows qv ru.there.is_object ru.there.live,
@@ -131,15 +140,15 @@ module _ (plan : Plan) (who : Context) (agreed : Negotiated) (inode : ℕ) (hand
       IsOpenOn (world_of x).tree fd object → IsOpenOn (world_of y).tree fd object
   open_later x y fd object e o = subst (λ (t : Tree). IsOpenOn t fd object) (sym e) o
 
-  sized_to : (object target : ℕ) → Stands state inode object → Aims object target → (v : Full) →
+  sized_to : (object target : ℕ) → Stands state inode object → Aims object target → MayBe Sized → (v : Full) →
       Quiet (world_of w) (world_of v) → (tfd : Fd) (through : Bool) → IsOpenOn (world_of v).tree tfd target →
       Alters w v (set_at object target Sized) →
       At j (set_times valid attr (target_as tfd through) (tell_attr plan inode)) v last w' → Whole
-  sized_to object target st of v qv tfd through ot al c =
+  sized_to object target st of may v qv tfd through ot al c =
       walk_times (sets_atime valid || sets_mtime valid) j tfd through (atime_set valid attr) (mtime_set valid attr)
       (tell_attr plan inode) w v (set_at object target Sized) target last w' n ot al c
-      (λ r. front object target st of Sized v al r) (λ u ru cu.
-      told_at object target st of u (quiet_on (world_of w) (world_of v) (world_of u) qv ru.quiet) ru.alters cu)
+      (λ r. front object target st of Sized may v al r) (λ u ru cu.
+      told_at object target st of may u (quiet_on (world_of w) (world_of v) (world_of u) qv ru.quiet) ru.alters cu)
 
   abbrev timed : Fd → Bool → RequestTree
   timed tfd through = set_times valid attr (target_as tfd through) (tell_attr plan inode)
@@ -152,24 +161,26 @@ module _ (plan : Plan) (who : Context) (agreed : Negotiated) (inode : ℕ) (hand
 
   set_from : (object target : ℕ) → Stands state inode object → Aims object target → (file tfd : Fd) (through : Bool)
       (x : Full) → Calm w x → IsOpenOn (world_of x).tree file object → IsOpenOn (world_of x).tree tfd target →
+      (writes (access_in x.state tfd) ≡ true → MayWriteBy (filled state w) handle) →
       At j (set_mode valid attr (target_as tfd through) (owning file tfd through)) x last w' → Whole
-  set_from object target st of file tfd through x qx o ot c =
+  set_from object target st of file tfd through x qx o ot may c =
       walk_mode (sets_mode valid) j tfd through attr.mode (owning file tfd through) w x (contents_at w) target last w'
       n ot
-      qx.keeps c (λ r. front object target st of Untouched x qx.keeps r) (λ y ry cy.
+      qx.keeps c (λ r. front object target st of Untouched tt x qx.keeps r) (λ y ry cy.
       walk_owner (sets_uid valid || sets_gid valid) j plan.capability file
       (id_set (sets_uid valid) (to_host plan.uid_map attr.uid)) (id_set (sets_gid valid) (to_host plan.gid_map
       attr.gid))
       (sizing tfd through) w y (set_at object target Moded) object last w' n
-      (open_later x y file object ry.tree o) ry.alters cy (λ r. front object target st of Moded y ry.alters r)
-      (λ v av r. front object target st of Disowned v av r) (λ z rz cz.
+      (open_later x y file object ry.tree o) ry.alters cy (λ r. front object target st of Moded tt y ry.alters r)
+      (λ v av r. front object target st of Disowned tt v av r) (λ z rz cz.
       walk_size (sets_size valid) plan (kills_suidgid valid) j plan.capability tfd attr.size (timed tfd through) w z
       (set_at object target Owned) target last w' n
       (ap (λ (r : Role). r.lacks (call.Truncate tfd attr.size)) role)
       (open_later y z tfd target rz.tree (open_later x y tfd target ry.tree ot)) rz.alters cz
-      (λ r. front object target st of Owned z rz.alters r)
-      (λ v av r. front object target st of BaredStage v av r) (λ v rv cv.
-      sized_to object target st of v (quiet_on (world_of w) (world_of x) (world_of v) qx.quiet
+      (λ r. front object target st of Owned tt z rz.alters r)
+      (λ v av r. front object target st of BaredStage tt v av r) (λ v rv sizes cv.
+      sized_to object target st of (λ e. may (ap writes (sym
+      (fds_on x.state y.state z.state ry.fds rz.fds tfd ot.0 ot.1).1) ∙ sizes e)) v (quiet_on (world_of w) (world_of x) (world_of v) qx.quiet
       (quiet_on (world_of x) (world_of y) (world_of v) ry.quiet (quiet_on (world_of y) (world_of z) (world_of v)
       rz.quiet
       rv.quiet))) tfd through
@@ -186,14 +197,14 @@ module _ (plan : Plan) (who : Context) (agreed : Negotiated) (inode : ℕ) (hand
   unfolding target_of
   at_target None e object st file x qx o c =
       set_from object object st (λ P p. subst (λ (h : Option ℕ). OfTarget state inode object h P) (sym e) p) file file
-      true
-      x qx o o c
+      true x qx o o (λ u. subst (λ (h : Option ℕ). MayWriteBy (filled state w) h) (sym e) tt) c
   at_target (Some given) e object st file x qx o c =
       walk_pin j given inode _ x last w' n c (λ r. out (refused_from w x last w' qx.keeps r)) (λ fd y py cy.
       set_from object py.object st (λ P p. subst (λ (h : Option ℕ). OfTarget state inode object h P) (sym e)
       (py.object, handle_from w x state given inode py.object g.shows qx.quiet py.was, p)) file fd false y
       (calm_on w x y qx py.calm) (open_later x y file object py.tree o) (open_later x y fd py.object py.tree py.open_on)
-      cy)
+      (λ u. subst (λ (h : Option ℕ). MayWriteBy (filled state w) h) (sym e)
+      (ap writes (sym (qx.lent given).1 ∙ py.lends) ∙ u)) cy)
 
   pub fills_setattr : At j (begin (setattr plan j.seat inode handle valid attr)) w last w' → Whole
   unfolding size_checked

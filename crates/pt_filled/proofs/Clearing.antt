@@ -3,7 +3,7 @@ use Rattle.std.specs.Prelude.{◌||◌, if◌then◌else◌}
 use Rattle.std.specs.Map.{update}
 use Rattle.std.specs.Str.{bytes_eq}
 use Rattle.std.proofs.Common.{[], ◌∷◌, ◌≡◌, ◌≢◌, ◌<◌, ℕ, List, length, Bool, true, false, Option, Some, None, refl, sym}
-use Rattle.std.proofs.Common.{ap, subst, ◌∙◌, ◌==◌, cond, is_none, inl, inr, option_and_then, option_map}
+use Rattle.std.proofs.Common.{ap, subst, ◌∙◌, cond, is_none, inl, inr, option_and_then, option_map}
 use Rattle.std.proofs.Common.{slice_get, ⊎_elim}
 use Rattle.std.proofs.lemmas.Bool.{cases_eq}
 use Rattle.std.proofs.lemmas.Option.{slice_get_within}
@@ -51,6 +51,7 @@ use Rattle.pt_plain.proofs.Walking.{Quiet, quiet_none, some_is}
 use Rattle.pt_filled.specs.Contents.{IsSame, uncapped, valued, with_changed}
 use Rattle.pt_filled.proofs.Effects.{same_parts}
 use Rattle.pt_filled.proofs.Filling.{open_within}
+use Rattle.pt_filled.proofs.Descriptors.{KeepsFds, fds_call, fds_none}
 use Rattle.pt_filled.proofs.Hosting.{Alters, alters_on, contents_at, Full, objects_at, Respects, Steps}
 use Rattle.pt_filled.proofs.Hosting.{Thread, world_of}
 use Rattle.pt_filled.proofs.Parts.{At, IsRefused, Leaves, quiet_makes, walk_ask}
@@ -281,6 +282,7 @@ pub record Cleared (w x y : Full) (object : ℕ) (name : Option (List ℕ)) (are
   pub tree : (world_of y).tree ≡ (world_of x).tree
   pub quiet : Quiet (world_of x) (world_of y)
   pub alters : Alters w y (with_changed object (uncapped name) are)
+  pub fds : KeepsFds x.state y.state
 
 still_gone : (fd : Fd) (through : Bool) (name : List ℕ) (told : ActReply) → gone_in told ≡ None →
     Leaves (Calls (call.RemoveXattr fd through name)) told
@@ -301,7 +303,12 @@ pub walk_clear : {G : Type 0} (j : Thread) (name : Option (List ℕ)) (fd : Fd) 
     IsOpenOn (world_of x).tree fd object → Alters w x are → At j (capability_cleared name fd through next) x last w' →
     (IsRefused x last w' → G) → ((y : Full) → Cleared w x y object name are → At j next y last w' → G) → G
 walk_clear j None fd through next w x are object last w' n o a c out goes =
-    goes x (record { tree = refl; quiet = quiet_none (world_of x); alters = alters_idle w x are object a }) c
+    goes x (record {
+      tree = refl;
+      quiet = quiet_none (world_of x);
+      alters = alters_idle w x are object a;
+      fds = fds_none x.state x.state refl;
+    }) c
 walk_clear {G} j (Some name) fd through next w x are object last w' n o a c out goes =
     walk_ask j (Calls (call.RemoveXattr fd through name)) gone_in (λ done. next) x last w' n
     (still_gone fd through name) c out go
@@ -314,6 +321,8 @@ walk_clear {G} j (Some name) fd through next w x are object last w' n o a c out 
           quiet = quiet_makes j x y (Calls (call.RemoveXattr fd through name)) (Host told) m tt tt;
           alters = alters_on w x y are object (valued name None) (within_at w x are fd object a sound o)
               (respects_none name) a (was_cleared j x y fd through name told object m.2 g sound o);
+          fds = fds_call x.state x.seat (call.RemoveXattr fd through name) told y.state y.seat m.2.made.0
+              (λ fd e. cc);
         }
 
     go : (told : ActReply) (done : Unit {0}) (mid on : Full) → gone_in told ≡ Some done →

@@ -1,11 +1,13 @@
 -- Proof. `copyfilerange`.
-use Rattle.std.specs.Prelude.{take, drop}
-use Rattle.std.proofs.Common.{[], ◌∷◌, ◌≡◌, ◌≢◌, ◌<◌, ℕ, List, length, Bool, false, Option, Some, refl, sym, ap}
+use Rattle.std.specs.Prelude.{◌||◌, take, drop}
+use Rattle.std.proofs.Common.{[], ◌∷◌, ◌≡◌, ◌≢◌, ◌<◌, ℕ, List, length, Bool, true, false, Option, Some, None, refl}
+use Rattle.std.proofs.Common.{sym, ap, nat_lt}
 use Rattle.std.proofs.Common.{subst, ◌∙◌, slice_get, ◌==◌, slice_set, ⊎_elim}
 use Rattle.std.proofs.lemmas.Bool.{cases_eq}
 use Rattle.std.proofs.lemmas.Option.{slice_get_within}
 use Rattle.pt_host.specs.Call.{Call}
 use Rattle.pt_host.specs.Contents.{ObjectContents}
+use Rattle.pt_host.specs.Errno.{ebadf, einval}
 use Rattle.pt_host.specs.Tree.{Tree, Object, IsOpenOn}
 use Rattle.pt_host.specs.Promises.{FitsCall}
 use Rattle.pt_host.specs.Flags.{includes}
@@ -37,19 +39,24 @@ use Rattle.pt_fit.specs.Asker.{role_in}
 use Rattle.pt_node.specs.Node.{kind_number}
 use Rattle.pt_node.specs.Slots.{open_at}
 use Rattle.pt_node.specs.Entries.{changed_where}
+use Rattle.pt_node.specs.Opening.{first_refusal, wants_read, wants_write}
 use Rattle.pt_node.specs.Reading.{after_reading}
 use Rattle.pt_node.specs.Laws.Updates.{get-set_here, get-set_apart}
 use Rattle.pt_node.specs.declared.node.Node.{Node}
 use Rattle.pt_node.specs.declared.slots.OpenFile.{OpenFile}
 use Rattle.pt_rules.specs.Calls.{Answered, checked, refused, on_fd, tells}
-use Rattle.pt_rules.specs.ContentCalls.{after_writing, copied, copy_checks, copy_range, with_copied, with_written}
+use Rattle.pt_rules.specs.ContentCalls.{after_writing, copied, copy_checks, copy_range, is_path_only, is_unreadable}
+use Rattle.pt_rules.specs.ContentCalls.{is_unwritable, with_copied, with_written}
 use Rattle.pt_rules.specs.State.{State, contents_where, tree_of, time_of}
 use Rattle.pt_rules.specs.Laws.Cases.{by_fd, by_checks}
 use Rattle.pt_plain.specs.Plain.{PlainTree, handled_as}
 use Rattle.pt_plain.proofs.Stilling.{IsStill}
+use Rattle.pt_filled.specs.Accesses.{reads, writes}
 use Rattle.pt_filled.specs.Contents.{IsSame, is_file, is_file_kind, overwritten, with_changed}
 use Rattle.pt_filled.specs.Fills.{Fills}
-use Rattle.pt_filled.proofs.Effects.{file_is, objects_still, ok_has, writes_so}
+use Rattle.pt_filled.proofs.Descriptors.{access_in, file_access}
+use Rattle.pt_filled.proofs.Effects.{file_is, none_of, objects_still, ok_has, writes_so}
+use Rattle.pt_filled.proofs.Handling.{accesses_at}
 use Rattle.pt_filled.proofs.Writing.{changed_all, respects_write}
 use Rattle.pt_filled.proofs.Filling.{Between, filled, IsFilledBy, refused_fills, become, file_there}
 use Rattle.pt_filled.proofs.Finding.{Held, pinned_held, same_at}
@@ -59,6 +66,7 @@ use Rattle.pt_filled.proofs.Parts.{At, IsRefused, comes_at, idles_calm, refused_
 use Rattle.pt_filled.proofs.Parts.{walk_placed, walk_pin}
 use Rattle.pt_filled.proofs.Tables.{opened_object, ok_not_refused, tabled, Tabled, IsSetTo, same_told}
 use Rattle.pt_filled.proofs.Threading.{Comes, Makes}
+use Rattle.pt_filled.proofs.Using.{readable_as, unless_not, writable_as}
 
 -- ---- the table
 
@@ -71,9 +79,15 @@ record CopyOk (s : State) (seat : HostSeat) (fd : Fd) (offset : ℕ) (fd2 : Fd) 
   file2 : OpenFile
   node2 : Node
   open_as2 : open_at s.slots fd2.0 ≡ Some file2
+  readable : wants_read file.flags.0 ≡ true
+  writable : wants_write file2.flags.0 ≡ true
   there2 : slice_get s.nodes file2.object ≡ Some node2
   tells : told ≡ value.Count (length (copied offset size node))
   leaves : after ≡ with_copied s seat file.object node file2.object offset2 (copied offset size node)
+
+neither : (a b : Bool) → (a || b) ≡ false → (a ≡ false) × (b ≡ false)
+neither false b e = (refl, e)
+neither true b e = absurd (cc)
 
 copy_ok : (s : State) (seat : HostSeat) (fd : Fd) (offset : ℕ) (fd2 : Fd) (offset2 size flags : ℕ) (told : HostValue)
     (after : State) → (host.Ok told, after) ≡ copy_range s seat fd offset fd2 offset2 size flags →
@@ -90,6 +104,8 @@ copy_ok s seat fd offset fd2 offset2 size flags told after =
       file2 = file2;
       node2 = node2;
       open_as2 = is2;
+      readable = (may_copy file node file2 none).0;
+      writable = (may_copy file node file2 none).1;
       there2 = there2;
       tells = same_told told (value.Count (length (copied offset size node))) (ap (λ (a : Answered). a.0) e);
       leaves = ap (λ (a : Answered). a.1) e;
@@ -100,6 +116,16 @@ copy_ok s seat fd offset fd2 offset2 size flags told after =
 
     refuses : (errno : Errno) → P (refused s errno)
     refuses errno e = absurd (ok_not_refused told errno (ap (λ (a : Answered). a.0) e))
+
+    may_copy : (file : OpenFile) (node : Node) (file2 : OpenFile) →
+        first_refusal (copy_checks file node file2 offset offset2 (length (copied offset size node)) flags) ≡ None →
+        (wants_read file.flags.0 ≡ true) × (wants_write file2.flags.0 ≡ true)
+    may_copy file node file2 none =
+        let k = neither (is_unreadable file) (is_unwritable file2)
+        (none_of (is_unreadable file || is_unwritable file2) ebadf _ (none_of (nat_lt 0 flags) einval _ none).1).0 in (
+          unless_not (is_path_only file) (wants_read file.flags.0) k.0,
+          unless_not (is_path_only file2) (wants_write file2.flags.0) k.1,
+        )
 
     copies : OpenFile → Node → OpenFile → Answered
     copies file node file2 =
@@ -200,6 +226,18 @@ writes_at s seat keeps target start (byte ∷ bytes) node there within e other =
 -- what is copied of the source
 abbrev taken : Full → ℕ → ℕ → ℕ → List ℕ
 taken w offset size object = take size (drop offset (contents_at w object).bytes)
+
+-- the source may be read, and the target written
+was_copiable : (j : Thread) (w on : Full) (fd : Fd) (offset : ℕ) (fd2 : Fd) (offset2 size flags : ℕ)
+    (told : HostValue) → Steps j w (made (Calls (call.CopyRange fd offset fd2 offset2 size flags)) (Host (host.Ok
+    told))) on → (reads (access_in w.state fd) ≡ true) × (writes (access_in w.state fd2) ≡ true)
+was_copiable j w on fd offset fd2 offset2 size flags told s =
+    let t = tabled w.state w.seat (call.CopyRange fd offset fd2 offset2 size flags) told on.state on.seat refl s.made.0
+    in
+    let r = copy_ok w.state w.seat fd offset fd2 offset2 size flags told t.after t.answered in (
+      readable_as w fd r.file (file_access w.state fd r.file r.open_as) r.readable,
+      writable_as w fd2 r.file2 (file_access w.state fd2 r.file2 r.open_as2) r.writable,
+    )
 
 was_copied : (j : Thread) (w on : Full) (fd : Fd) (offset : ℕ) (fd2 : Fd) (offset2 size flags : ℕ) (told : HostValue)
     (object target : ℕ) (keeps : Bool) →
@@ -319,8 +357,7 @@ module _ (plan : Plan) (who : Context) (agreed : Negotiated) (j : Thread) (w : F
       (copy_counts from offset to offset2 size flags) k (λ r. out (refused_from w d last w' h.calm.keeps r)) (λ count
       e m k.
       answered d e from to count f.object f.held (subst (λ (t : Tree). IsOpenOn t from f.object) (sym pd.tree)
-      f.open_on)
-      h m (comes_at k))))))))
+      f.open_on) (f.lends ∙ ap (λ (s : State). access_in s from) (sym pd.state)) h m (comes_at k))))))))
     where
       makes : Fd → Fd → Call
       makes from to = call.CopyRange from offset to offset2 size flags
@@ -335,10 +372,11 @@ module _ (plan : Plan) (who : Context) (agreed : Negotiated) (j : Thread) (w : F
       same_count one other e = cc
 
       answered : (d e : Full) (from to : Fd) (count object : ℕ) → state.handles handle ≡ handled_as inode object →
-          IsOpenOn (world_of d).tree from object → (h : Held w d state handle2 inode2 to) →
+          IsOpenOn (world_of d).tree from object → accesses_at w handle ≡ access_in d.state from →
+          (h : Held w d state handle2 inode2 to) →
           Makes j d (Calls (makes from to)) (Host (host.Ok (value.Count count))) e →
           Comes j (Gives (answer.Wrote count)) e last w' → IsFilledBy plan j.seat who asked state w last after w'
-      answered d e from to count object held o h m k =
+      answered d e from to count object held o lends h m k =
           let target = h.object in
           let keeps = includes j.seat.eff_caps.0 16 in
           let by_seat = subst (λ (r : Role). d.seat ≡ seat_lacking (r.lacks (makes from to)) j.seat) role m.2.as_asked
@@ -358,16 +396,21 @@ module _ (plan : Plan) (who : Context) (agreed : Negotiated) (j : Thread) (w : F
           let all = changed_all j w d e w' to target so h.calm.keeps m.2.made.0.sound h.open_on
           (respects_write keeps (is_file (filled state w) target) false offset2 (taken w offset size object)) there
           (idles_calm j e w' k.1).keeps in
+          let may = was_copiable j d e from offset to offset2 size flags (value.Count count) m.2 in
           subst (λ (x : Answer). Fills plan j.seat who asked (filled state w) x (filled after w')) (sym k.0) (
-            object,
-            held,
             (
-              target,
-              h.held,
+              object,
+              held,
               (
-                same_count count (length (taken w offset size object)) (wrote.0
-                    ∙ ap (λ (b : List ℕ). value.Count (length b)) source),
-                become w w' state after _ g.shows all,
+                target,
+                h.held,
+                (
+                  same_count count (length (taken w offset size object)) (wrote.0
+                      ∙ ap (λ (b : List ℕ). value.Count (length b)) source),
+                  become w w' state after _ g.shows all,
+                ),
               ),
             ),
+            ap reads lends ∙ may.0,
+            ap writes h.lends ∙ may.1,
           )

@@ -1,5 +1,4 @@
 -- Proof. `create`.
-use Rattle.std.specs.Prelude.{◌&&◌}
 use Rattle.std.proofs.Common.{inl, inr, [], ◌≡◌, ◌≢◌, ◌<◌, ℕ, List, length, Bool, Some, refl, sym, ap, subst, ◌∙◌}
 use Rattle.std.proofs.Common.{slice_get}
 use Rattle.pt_host.specs.Tree.{Tree, Object}
@@ -25,6 +24,7 @@ use Rattle.pt_law.proofs.Givings.{live_count}
 use Rattle.pt_fit.specs.Asker.{role_in, asker_in}
 use Rattle.pt_plain.specs.Plain.{PlainTree}
 use Rattle.pt_plain.specs.Serves.{Serves}
+use Rattle.pt_filled.specs.Accesses.{opened_for}
 use Rattle.pt_filled.specs.Fills.{Fills, IsNamed}
 use Rattle.pt_filled.specs.Contents.{is_file, is_file_kind, with_changed, uncapped_if, Becomes as BecomesThere}
 use Rattle.pt_filled.specs.New.{fresh, IsInContext, MakesAsked, MakesBare, next_object, permitted}
@@ -123,17 +123,17 @@ module _ (plan : Plan) (who : Context) (agreed : Negotiated) (j : Thread) (w : F
           inl (inr (inr (t.brings, bares by_whom asks t.made)))
       fills (answer.Refused errno) e v (inr (inl (by_whom, asks, inr m))) =
           inl (inr (inl (news by_whom asks m.0, names_new w w' state after parent name g m.0.named)))
-      fills (answer.Refused errno) e v (inr (inr (dir, object, f, q, is, live, leads, inl z, end))) =
+      fills (answer.Refused errno) e v (inr (inr (dir, object, f, q, is, live, leads, inl z, end, lent))) =
           let k = olds dir object (emptied_so plan j.seat kill flags) f q is live leads z.1 in
           inr ((k.0, k.1, inl k.2), none_new z.1.objects)
-      fills (answer.Refused errno) e v (inr (inr (dir, object, f, q, is, live, leads, inr z, end))) =
+      fills (answer.Refused errno) e v (inr (inr (dir, object, f, q, is, live, leads, inr z, end, lent))) =
           let k = olds dir object whole f q is live leads z in inr ((k.0, k.1, inr k.2), none_new z.objects)
       fills (answer.Created entry handle options) e v (inl r) =
           absurd (not_created r.errno entry handle options (sym e ∙ r.is))
       fills (answer.Created entry handle options) e v (inr (inl (by_whom, asks, inl t))) =
           absurd (not_created t.errno entry handle options (sym e ∙ t.is_refused))
       fills (answer.Created entry handle options) e v (inr (inl (by_whom, asks, inr m))) =
-          inl (news by_whom asks m.0, told_new m.1)
+          inl (news by_whom asks m.0, told_new m.1, m.2 entry handle options e)
         where
           agreed_there : after.agreed ≡ w.tables.negotiated
           agreed_there = created_agreed ∙ g.shows.agreed
@@ -150,10 +150,14 @@ module _ (plan : Plan) (who : Context) (agreed : Negotiated) (j : Thread) (w : F
           told_new (inr t) = subst (λ (z : Entry). NamesEntry plan (filled state w) parent name z (filled after w'))
               (sym (same_created entry t.0 handle t.1 options t.2 (sym e ∙ t.3)))
               (told_entry plan w w' state after w.tables.negotiated parent name t.0 g.shows g.ends agreed_there t.4)
-      fills (answer.Created entry handle options) e v (inr (inr (dir, object, f, q, is, live, leads, inl z, end))) =
+      fills (answer.Created entry handle options) e v (inr (inr (dir, object, f, q, is, live, leads, inl z, end, lent))) =
           absurd (not_created z.0.0 entry handle options (sym e ∙ z.0.1))
-      fills (answer.Created entry handle options) e v (inr (inr (dir, object, f, q, is, live, leads, inr z, end))) =
-          inr (olds dir object whole f q is live leads z, told_old f q end)
+      fills (answer.Created entry handle options) e v (inr (inr (dir, object, f, q, is, live, leads, inr z, end, lent))) =
+          inr (
+            olds dir object whole f q is live leads z,
+            told_old f q end,
+            lent entry handle options e ∙ ap (λ (x : Negotiated). opened_for x flags) (sym g.shows.agreed),
+          )
         where
           told_old : (f : Full) → Calm w f →
               EndsSo (λ entry. (g : Full) × IsLooked plan w.tables.negotiated f g parent name entry) last →

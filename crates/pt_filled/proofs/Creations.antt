@@ -5,7 +5,7 @@ use Rattle.std.proofs.Common.{ap, subst, ◌∙◌, slice_get, cond, length, ari
 use Rattle.pt_host.specs.Contents.{ObjectContents}
 use Rattle.pt_host.specs.Flags.{includes, o_creat, o_directory, o_excl, o_path, o_trunc}
 use Rattle.pt_host.specs.LawfulTree.{TreeChanges}
-use Rattle.pt_host.specs.Tree.{Tree, Object, IsOpenOn}
+use Rattle.pt_host.specs.Tree.{Tree, Object, Opened, IsOpenOn}
 use Rattle.pt_host.specs.Errno.{eexist, einval, estale}
 use Rattle.pt_host.specs.declared.ids.Errno.{Errno}
 use Rattle.pt_host.specs.declared.ids.Fd.{Fd}
@@ -59,6 +59,7 @@ use Rattle.pt_rules.specs.NameCalls.{masked}
 use Rattle.pt_rules.specs.OpeningCalls.{create_or_open, created_checks, creating_checks, open_at_name, open_creating}
 use Rattle.pt_rules.specs.OpeningCalls.{open_named, open_new}
 use Rattle.pt_plain.proofs.Showing.{bare_tree}
+use Rattle.pt_filled.specs.Accesses.{asked_for, opened_for}
 use Rattle.pt_filled.specs.Contents.{is_file_kind}
 use Rattle.pt_filled.specs.New.{fresh, permitted}
 use Rattle.pt_filled.proofs.Hosting.{Full, Keeps, Thread, world_of, Bared, objects_at}
@@ -72,6 +73,10 @@ use Rattle.pt_filled.proofs.Labelling.{walk_label, walk_labelled}
 use Rattle.pt_filled.proofs.Looking.{IsLooked, IsToldSo, walk_look_up}
 use Rattle.pt_filled.proofs.Tails.{Leaving, leaving_look_up, leaving_handled, leaving_stat, leaving_unless, stat_leaves}
 use Rattle.pt_filled.proofs.News.{HasMade, made_from, made_then, has_made, MakeOk}
+use Rattle.pt_filled.proofs.Descriptors.{GoesOn, IsOpenAs, KeepsFds, access_in, fds_on, opened_as_asked}
+use Rattle.pt_filled.proofs.Handling.{fds_goes}
+use Rattle.pt_filled.proofs.Lending.{LendsFd, LentTo, lends_handled, lent_none, lent_so}
+use Rattle.pt_filled.proofs.Modes.{asks_made}
 use Rattle.pt_filled.proofs.Endings.{Ending, ending_handled, ending_open_num, ends_with}
 use Rattle.pt_filled.proofs.Opened.{ClearsSo, emptied_so, OpensSo, opens_so}
 use Rattle.pt_filled.proofs.Makings.{walk_asker}
@@ -197,10 +202,10 @@ walk_make_at {G} j dir name flags mode may_be next w last w' n (by c) out goes o
         goes fd c.1 k.0 m (subst (λ (z : Full). Bared j z k.0) i k.1) (by k.2)
     go (Host (host.Ok told)) m i k = absurd m.2.goes.made.0.3.allowed
     go (Host (host.Refused errno)) m i k =
-        other (Host (host.Refused errno)) (calm_goes j w c.1 asked _ m (inl tt) tt tt) i k.0 k.1
+        other (Host (host.Refused errno)) (calm_goes j w c.1 asked _ m (inl tt) tt tt (λ fd e. cc)) i k.0 k.1
         (is_there (Host (host.Refused errno)) && may_be) k.2
     go (Host (host.Fault errno)) m i k =
-        other (Host (host.Fault errno)) (calm_goes j w c.1 asked _ m (inl tt) tt tt) i k.0 k.1
+        other (Host (host.Fault errno)) (calm_goes j w c.1 asked _ m (inl tt) tt tt (λ fd e. cc)) i k.0 k.1
         (is_there (Host (host.Fault errno)) && may_be) k.2
     go (Host host.NoMemory) m i k = absurd (m.1 refl)
     go (Event told) m i k = absurd m.2.made
@@ -239,6 +244,19 @@ module _ (plan : Plan) (asked : FileAsked) where
       go : (are : Bool) → Ending Q (if are then handles_in session fd looked else Gives (answer.Refused estale))
       go true = ending_handled session looked.entry.inode fd _ (λ handle. record { by = q handle })
       go false = record { by = r }
+
+  -- what its handle may be used for
+  same_lends : (j : Thread) (session : BegunSession) (fd : Fd) (told : Stat) (looked : Looked) (w : Full)
+      (last : Answer) (w' : Full) → last ≢ answer.NoMemory → At j (same_in session fd told looked) w last w' →
+      LendsFd j w.state fd (λ handle. ends_in (named_handle looked.entry handle)) last w'
+  unfolding if_same
+  same_lends j session fd told looked w last w' n c = go (are_same told.ids looked.ids) c
+    where
+      go : (are : Bool) → At j (if are then handles_in session fd looked else Gives (answer.Refused estale)) w last
+          w' → LendsFd j w.state fd (λ handle. ends_in (named_handle looked.entry handle)) last w'
+      go true c = lends_handled j session looked.entry.inode fd (λ handle. ends_in (named_handle looked.entry handle))
+          last w' n w c
+      go false c = inl (estale, (comes_at c).0)
 
   -- a file that was made: its number is that of its name, unless it is stale
   new_of : {G : Type 0} (j : Thread) (session : BegunSession) (label : Option Label) (dir fd : Fd) (w : Full)
@@ -283,12 +301,13 @@ CreatesSo j plan agreed brought parent name mode kill flags w last w' =
     ⊎ (((by_whom : Identity) × (j.role.asker ≡ Some by_whom)
     × (IsLeftBare brought w last w' 8 (fresh by_whom (permitted by_whom mode) 0 [])
     ⊎ (IsMadeWhole plan agreed brought w w' 8 (fresh by_whom (permitted by_whom mode) 0 []) parent name
-    × EndsSo (λ entry. IsToldSo plan w agreed parent name entry w') last)))
+    × EndsSo (λ entry. IsToldSo plan w agreed parent name entry w') last × LentTo (asked_for flags) last w')))
     ⊎ ((dir : ℕ) × (object : ℕ) × (e : Full) × Calm w e × (e.past.numbers parent ≡ Some dir)
     × (0 < live_count parent e.tables) × ((world_of e).tree.names dir name ≡ Some object)
     × ClearsSo (includes flags o_trunc) plan.capability w last w' object
     (emptied_so plan j.seat kill flags (is_file_kind (slice_get (objects_at w) object)))
-    × EndsSo (λ entry. (g : Full) × IsLooked plan agreed e g parent name entry) last))
+    × EndsSo (λ entry. (g : Full) × IsLooked plan agreed e g parent name entry) last
+    × LentTo (opened_for agreed flags) last w'))
 
 some_same : {one other : ℕ} → Some one ≡ Some other → one ≡ other
 some_same e = cc
@@ -356,7 +375,7 @@ creates_so plan asked j w last w' n lacks c =
           asked_as,
           inl (left_bare brought w i last w' 8 is (made_then w h i 8 is there ki) b
               r),
-        ))) (λ g made k. looked_behind told i mi same g made k))
+        ))) (λ g made fds k. looked_behind told i mi same g made fds k))
       where
         dir : Fd
         dir = fd_of directory.form
@@ -423,6 +442,7 @@ creates_so plan asked j w last w' n lacks c =
                   ∙ ap (λ (v : World). bare_tree v.tree) y.world);
             },
             inl (r.errno, r.is),
+            lent_none (asked_for asked.flags) last w' (r.errno, r.is),
           ),
         ))
         stat_refused (Some context) (Some label) l c r =
@@ -433,8 +453,9 @@ creates_so plan asked j w last w' n lacks c =
         made_end : (i g : Full) → (world_of i).tree ≡ (world_of f).tree →
             Labelled plan w.tables.negotiated brought w i g 8 is → Keeps g w' →
             bare_tree (world_of w').tree ≡ bare_tree (world_of g).tree →
-            EndsSo (λ entry. IsToldSo plan w w.tables.negotiated asked.parent asked.name entry w') last → Goal
-        made_end i g same made k tree end = inr (inl (
+            EndsSo (λ entry. IsToldSo plan w w.tables.negotiated asked.parent asked.name entry w') last →
+            LentTo (asked_for asked.flags) last w' → Goal
+        made_end i g same made k tree end lent = inr (inl (
           who_is,
           asked_as,
           inr (
@@ -445,16 +466,45 @@ creates_so plan asked j w last w' n lacks c =
               named = still_named (tree ∙ made.quiet.still.tree ∙ ap bare_tree same);
             },
             end,
+            lent,
           ),
         ))
 
+        -- what it was opened for, and that it is open
+        opened_fd : ((opened : Opened) × IsOpenAs f.state fd opened)
+            × (access_in f.state fd ≡ asked_for asked.flags)
+        opened_fd =
+            let s = opened_as_asked e.state e.seat (call.OpenAt dir asked.name (making_flags asked.flags) asked.mode)
+            (host.Ok (value.Fd fd)) f.state f.seat m.2.made.0 fd (making_flags asked.flags) refl refl in
+            (s.0, s.1 ∙ asks_made asked.flags)
+
+        -- its handle may be used for that
+        lent_new : (told : Stat) (i g on : Full) →
+            Makes j h (Calls (call.Stat fd)) (Host (host.Ok (value.Stat told))) i → KeepsFds i.state g.state →
+            (looked : Looked) → IsLooked plan session.agreed g on asked.parent asked.name looked.entry →
+            At j (same_in plan asked session fd told looked) on last w' → LentTo (asked_for asked.flags) last w'
+        lent_new told i g on mi fds looked l k = go (same_lends plan asked j session fd told looked on last w' n k)
+          where
+            at : GoesOn f.state g.state fd opened_fd.0.0
+            at = fds_on f.state h.state g.state y.fds (fds_on h.state i.state g.state
+                (fds_goes j h i (Calls (call.Stat fd)) (Host (host.Ok (value.Stat told))) (λ fd e. cc) mi.1 mi.2) fds)
+                fd opened_fd.0.0 opened_fd.0.1
+
+            go : LendsFd j on.state fd (λ handle. ends_in plan asked (named_handle looked.entry handle)) last w' →
+                LentTo (asked_for asked.flags) last w'
+            go (inl r) = lent_none (asked_for asked.flags) last w' r
+            go (inr (handle, x, a, opened, o, c)) =
+                lent_so j (asked_for asked.flags) looked.entry (create_options plan.config) last w'
+                (inr (handle, x, a ∙ l.fds fd opened_fd.0.0 opened at.0 o ∙ at.1 ∙ opened_fd.1, c))
+
         told_end : (told : Stat) (i : Full) → Makes j h (Calls (call.Stat fd)) (Host (host.Ok (value.Stat told))) i →
             (world_of i).tree ≡ (world_of f).tree → (g : Full) →
-            Labelled plan w.tables.negotiated brought w i g 8 is → (looked : Looked) (on : Full) →
+            Labelled plan w.tables.negotiated brought w i g 8 is → KeepsFds i.state g.state → (looked : Looked)
+            (on : Full) →
             IsLooked plan session.agreed g on asked.parent asked.name looked.entry →
             At j (same_in plan asked session fd told looked) on last w' →
             bare_tree (world_of w').tree ≡ bare_tree (world_of g).tree → Goal
-        told_end told i mi same g made looked on l k tree =
+        told_end told i mi same g made fds looked on l k tree =
             let later = left_by j (same_in plan asked session fd told looked) on last w'
             (same_leaves plan asked session fd told looked) k in
             let tables = mi.2.goes.made.1 ∙ ap (λ (v : World). v.tables) y.world ∙ m.2.goes.made.1 in
@@ -477,20 +527,21 @@ creates_so plan asked j w last w' n lacks c =
             (EndsSo (λ entry. IsToldSo plan w w.tables.negotiated asked.parent asked.name entry w')) session fd told
             looked
             (inl (estale, refl)) (λ handle. inr (looked.entry, handle, create_options plan.config, refl, so))).by
-            (comes_at k))
+            (comes_at k)) (lent_new told i g on mi fds looked l k)
 
         looked_behind : (told : Stat) (i : Full) →
             Makes j h (Calls (call.Stat fd)) (Host (host.Ok (value.Stat told))) i →
             (world_of i).tree ≡ (world_of f).tree → (g : Full) →
-            Labelled plan w.tables.negotiated brought w i g 8 is →
+            Labelled plan w.tables.negotiated brought w i g 8 is → KeepsFds i.state g.state →
             At j (looks_in plan asked session fd told) g last w' → Goal
-        looked_behind told i mi same g made c =
+        looked_behind told i mi same g made fds c =
             let tree = tree_throughout j (looks_in plan asked session fd told) g last w'
             (leaving_look_up plan session asked.parent asked.name _ (same_leaves plan asked session fd told)).by
             (comes_at c) in
             walk_look_up j plan session asked.parent asked.name _ g last w' n c
-            (λ r. made_end i g same made r.keeps tree (inl (r.errno, r.is)))
-            (λ looked seen on l ids k. told_end told i mi same g made looked on l k tree)
+            (λ r. made_end i g same made r.keeps tree (inl (r.errno, r.is))
+            (lent_none (asked_for asked.flags) last w' (r.errno, r.is)))
+            (λ looked seen on l ids k. told_end told i mi same g made fds looked on l k tree)
 
     opens : BegunSession → Looked → RequestTree
     opens session looked = open_num plan j.seat session looked.entry.inode asked.kill asked.flags (λ handle.
@@ -509,14 +560,18 @@ creates_so plan asked j w last w' n lacks c =
         (ending_open_num plan j.seat session looked.entry.inode asked.kill asked.flags _ (λ errno. inl (errno, refl))
         (λ handle. record { by = inr (looked.entry, handle, create_options plan.config, refl, (g, l')) })).by
         (comes_at cg))
-        (opens_so plan session looked.entry.inode asked.kill asked.flags
-        (λ handle. ends_in plan asked (named_handle looked.entry handle)) j w g last w' n lacks
-        (λ handle. record { by = tt }) (keeps_on w e g qe.keeps l'.keeps) cg))
+        (subst (λ (a : Negotiated). OpensSo j plan a asked.kill asked.flags looked.entry.inode (named_in looked) w g
+        last w') z (opens_so plan session looked.entry.inode asked.kill asked.flags (named_in looked) j w g last w' n
+        lacks (λ handle. record { by = tt }) (keeps_on w e g qe.keeps l'.keeps) cg)))
       where
+        named_in : Looked → ℕ → RequestTree
+        named_in looked handle = ends_in plan asked (named_handle looked.entry handle)
+
         opened : (looked : Looked) (g : Full) →
             IsLooked plan w.tables.negotiated e g asked.parent asked.name looked.entry →
             EndsSo (λ entry. (g : Full) × IsLooked plan w.tables.negotiated e g asked.parent asked.name entry) last →
-            OpensSo plan j.seat asked.kill asked.flags looked.entry.inode w g last w' → Goal
+            OpensSo j plan w.tables.negotiated asked.kill asked.flags looked.entry.inode (named_in looked) w g last w' →
+            Goal
         opened looked g l end (inl k) = inl (record { errno = k.0; is = k.1; keeps = k.2 })
         opened looked g l end (inr o) =
             let same = some_same (sym (ap (λ f. f looked.entry.inode) o.2.quiet.still.past ∙ l.stands) ∙ o.3) in
@@ -530,4 +585,6 @@ creates_so plan asked j w last w' n lacks c =
               l.leads ∙ ap (λ (z : ℕ). Some z) same,
               o.5,
               end,
+              lent_so j (opened_for w.tables.negotiated asked.flags) looked.entry (create_options plan.config) last w'
+                  o.7,
             ))

@@ -313,7 +313,7 @@ was_reopened j w on fd flags told object keeps s o e =
 
 -- ---- Reopen with `O_DIRECTORY`
 
-none_of : (b : Bool) (errno : Errno) (rest : Option Errno) → cond b (Some errno) rest ≡ None → (b ≡ false) × (rest ≡
+pub none_of : (b : Bool) (errno : Errno) (rest : Option Errno) → cond b (Some errno) rest ≡ None → (b ≡ false) × (rest ≡
     None)
 none_of true errno rest e = absurd (cc)
 none_of false errno rest e = (refl, e)

@@ -1,6 +1,7 @@
 -- Proof. Answers and contents that the plain file system refuses.
 use Rattle.std.proofs.Common.{◌≡◌, ◌≢◌, ◌<◌, ℕ, List, [], ◌∷◌, length, Bool, true, false, Option, Some, None, sym, ap}
 use Rattle.std.proofs.Common.{◌∙◌, arith, is_some, slice_get, subst, refl, inl, inr}
+use Rattle.std.specs.Prelude.{◌&&◌, if◌then◌else◌}
 use Rattle.std.specs.Str.{bytes_eq}
 use Rattle.std.proofs.lemmas.Map.{update_same}
 use Rattle.std.proofs.lemmas.Slice.Eq.{bytes_eq-Decides}
@@ -11,6 +12,7 @@ use Rattle.pt_host.specs.declared.seat.HostSeat.{HostSeat}
 use Rattle.pt_iface.specs.declared.entry.Attr.{Attr}
 use Rattle.pt_iface.specs.declared.entry.Entry.{Entry}
 use Rattle.pt_iface.specs.declared.entry.Timeout.{Timeout}
+use Rattle.pt_iface.specs.declared.flags.OpenOptions.{OpenOptions}
 use Rattle.pt_iface.specs.declared.request.Context.{Context}
 use Rattle.pt_iface.specs.declared.request.Extensions.{Extensions}
 use Rattle.pt_iface.specs.declared.request.SecContext.{SecContext}
@@ -21,6 +23,7 @@ use Rattle.pt_law.specs.Under.{Identity}
 use Rattle.pt_law.proofs.Lists.{set_at_other}
 use Rattle.pt_fit.specs.Asker.{asker_in}
 use Rattle.pt_plain.specs.Plain.{Handled, handled_as, numbered_as, Numbered}
+use Rattle.pt_filled.specs.Accesses.{opened_for, writes}
 use Rattle.pt_filled.specs.Contents.{FilledTree, is_file, keeps_set_id, overwritten, with_changed, uncapped}
 use Rattle.pt_filled.specs.Fills.{Fills}
 use Rattle.pt_filled.specs.New.{contents_made, IsInContext, next_object}
@@ -41,11 +44,11 @@ module _ (plan : Plan) (seat : HostSeat) (who : Context) (state after : FilledTr
       (after.contents other).bytes ≡ 2 ∷ [] →
       Fills plan seat who (request.Write inode handle 0 (2 ∷ []) false kill 0) state (answer.Wrote 1) after → ⊥
   another_file inode handle object other kill h apart l old new f =
-      let same : f.0 ≡ object = ap object_in (sym f.1 ∙ h) in
+      let same : f.0.0 ≡ object = ap object_in (sym f.0.1 ∙ h) in
       let here = ap (λ (o : ℕ). (with_changed o (put kill o) state.contents other).bytes) same
       ∙ ap (λ (c : ObjectContents). c.bytes)
       (set_at_other state.contents object (put kill object (state.contents object)) other apart) in
-      clash (sym new ∙ ap (λ (c : ObjectContents). c.bytes) (f.2.1 other l) ∙ here ∙ old)
+      clash (sym new ∙ ap (λ (c : ObjectContents). c.bytes) (f.0.2.1 other l) ∙ here ∙ old)
     where
       clash : ◌≡◌ {A = List ℕ} (2 ∷ []) [] → ⊥
       clash e = (let l = ap (λ (b : List ℕ). length b) e in absurd (omega (arith, l)))
@@ -53,7 +56,23 @@ module _ (plan : Plan) (seat : HostSeat) (who : Context) (state after : FilledTr
   -- a write that tells another count than that of its bytes
   another_count : (inode handle : ℕ) (kill : Bool) →
       Fills plan seat who (request.Write inode handle 0 (2 ∷ []) false kill 0) state (answer.Wrote 7) after → ⊥
-  another_count inode handle kill f = absurd (let e : 7 ≡ 1 = f.2.0 in omega (arith, e))
+  another_count inode handle kill f = absurd (let e : 7 ≡ 1 = f.0.2.0 in omega (arith, e))
+
+  -- a write by a handle that was opened to read
+  another_use : (inode handle : ℕ) (kill : Bool) → state.accesses handle ≡ 0 →
+      Fills plan seat who (request.Write inode handle 0 (2 ∷ []) false kill 0) state (answer.Wrote 1) after → ⊥
+  another_use inode handle kill reads f = clash (sym f.1 ∙ ap writes reads)
+    where
+      clash : true ≡ false → ⊥
+      clash e = cc
+
+  -- what is opened to read may be used to write
+  another_access : (inode handle : ℕ) (kill : Bool) (options : OpenOptions) → state.plain.agreed.writeback ≡ false →
+      after.accesses handle ≡ 1 →
+      Fills plan seat who (request.Open inode kill 0) state (answer.Opened handle options) after → ⊥
+  another_access inode handle kill options plainly to_write f =
+      let e : opened_for state.plain.agreed 0 ≡ 0 = ap (λ (b : Bool). if (b && false) then 2 else 0) plainly in
+      let one = sym to_write ∙ f.1 in absurd (omega (arith, e, one))
 
   -- a directory that is a file
   another_kind : (parent : ℕ) (name : List ℕ) (mode umask : ℕ) (ext : Extensions) (entry : Entry) (what : Object) →

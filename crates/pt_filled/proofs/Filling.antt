@@ -28,14 +28,15 @@ use Rattle.pt_filled.specs.Contents.{FilledTree, IsSame, AllBecome, AllStay, is_
 use Rattle.pt_filled.specs.Fills.{Fills, FillsRefused}
 use Rattle.pt_filled.specs.Told.{AreNames, IsStatOf, links_in}
 use Rattle.pt_filled.proofs.Effects.{StatOk, size_is}
+use Rattle.pt_filled.proofs.Handling.{accesses_at}
 use Rattle.pt_filled.proofs.Hosting.{Full, Alters, Keeps, world_of, contents_at, objects_at}
 use Rattle.pt_filled.proofs.Linking.{are_listed, links_are, names_listed}
 use Rattle.pt_filled.proofs.Parts.{IsRefused}
 use Rattle.pt_filled.proofs.Tables.{object_is}
 
--- the plain file system with the contents of a world
+-- the plain file system with the contents of a world, and what its handles may be used for
 abbrev pub filled : PlainTree → Full → FilledTree
-filled state w = record { plain = state; contents = contents_at w }
+filled state w = record { plain = state; contents = contents_at w; accesses = accesses_at w }
 
 pub objects_of : (w : Full) (state : PlainTree) → Shows (world_of w) state → state.tree.objects ≡ objects_at w
 objects_of w state s = ap (λ (t : Tree). t.objects) s.tree

@@ -1,5 +1,5 @@
 -- Proof. The object of a number or a handle, found in the middle of a job: it is that of the plain file system.
-use Rattle.std.proofs.Common.{◌≡◌, ◌≢◌, ◌<◌, ℕ, length, sym, ap, subst}
+use Rattle.std.proofs.Common.{◌≡◌, ◌≢◌, ◌<◌, ℕ, length, sym, ap, subst, ◌∙◌}
 use Rattle.pt_host.specs.Tree.{Tree, Object, IsOpenOn}
 use Rattle.pt_host.specs.declared.ids.Fd.{Fd}
 use Rattle.pt_tables.specs.declared.reply.Resolved.{Resolved}
@@ -14,6 +14,8 @@ use Rattle.pt_rules.specs.Sound.{IsSound}
 use Rattle.pt_plain.specs.Plain.{PlainTree, Stands, handled_as}
 use Rattle.pt_plain.proofs.Showing.{Shows}
 use Rattle.pt_filled.specs.Contents.{IsSame}
+use Rattle.pt_filled.proofs.Descriptors.{access_in}
+use Rattle.pt_filled.proofs.Handling.{accesses_at}
 use Rattle.pt_filled.proofs.Filling.{handle_from, open_within, stands_from}
 use Rattle.pt_filled.proofs.Hosting.{Full, Thread, world_of, contents_at}
 use Rattle.pt_filled.proofs.Parts.{At, Calm, calm_on, IsPinned, IsRefused, IsResolved, refused_from, walk_file}
@@ -32,6 +34,7 @@ pub record Held (w d : Full) (state : PlainTree) (handle number : ℕ) (fd : Fd)
   pub object : ℕ
   pub held : state.handles handle ≡ handled_as number object
   pub open_on : IsOpenOn (world_of d).tree fd object
+  pub lends : accesses_at w handle ≡ access_in d.state fd
 
 -- what the object of a descriptor is in the middle of a job that left contents
 pub same_at : (w d : Full) (fd : Fd) (object : ℕ) → Calm w d → IsSound d.state → IsOpenOn (world_of d).tree fd object →
@@ -56,6 +59,7 @@ pinned_held w b d state handle number fd s q r = record {
   object = r.object;
   held = handle_from w b state handle number r.object s q.quiet r.was;
   open_on = subst (λ (t : Tree). IsOpenOn t fd r.object) (sym r.tree) r.open_on;
+  lends = sym (q.lent handle).1 ∙ r.lends;
 }
 
 module _ {G : Type 0} (j : Thread) (w : Full) (last : Answer) (w' : Full) (state : PlainTree)

@@ -4,8 +4,9 @@ use Rattle.std.proofs.lemmas.Bool.{cases_eq}
 use Rattle.pt_host.specs.Call.{Call}
 use Rattle.pt_host.specs.Contents.{ObjectContents}
 use Rattle.pt_host.specs.LawfulContents.{StaysButAccess}
-use Rattle.pt_host.specs.Sorts.{sort_of}
+use Rattle.pt_host.specs.Sorts.{EndsFd, sort_of}
 use Rattle.pt_host.specs.Tree.{Tree, Object}
+use Rattle.pt_host.specs.declared.ids.Fd.{Fd}
 use Rattle.pt_host.specs.declared.reply.HostReply.{HostReply}
 use Rattle.pt_host.specs.declared.seat.HostSeat.{HostSeat}
 use Rattle.pt_host.specs.declared.op.KeptHostOp.TheVariants as call
@@ -27,6 +28,7 @@ use Rattle.pt_rules.specs.Laws.Lawful.{does_leave_beside}
 use Rattle.pt_plain.proofs.Coming.{Law, IsSeats, seat_stays}
 use Rattle.pt_plain.proofs.Stilling.{IsStill, still_goes, returns_still}
 use Rattle.pt_filled.specs.Contents.{IsSame, with_changed}
+use Rattle.pt_filled.proofs.Descriptors.{KeepsFds, fds_call, fds_none, fds_on}
 
 -- the host's state, with all that a world has beside its tree, and the seat of the job that runs
 pub record Full : Type 0 where
@@ -219,13 +221,14 @@ keeps_returns j w on step r n g = record {
         left_same w on asked told (returns_call asked told r)
         (does_leave_beside w.state w.seat asked told on.state on.seat g.made.0)
 
--- scopes end: no world shows that, and contents stay
+-- scopes end: no world shows that, and contents and descriptors stay
 pub record Bared (j : Thread) (w on : Full) : Type 0 where
   pub world : world_of on ≡ world_of w
   pub keeps : Keeps w on
+  pub fds : KeepsFds w.state on.state
 
 pub bared_none : (j : Thread) (w : Full) → Law (world_of w) → Bared j w w
-bared_none j w l = record { world = refl; keeps = keeps_none w }
+bared_none j w l = record { world = refl; keeps = keeps_none w; fds = fds_none w.state w.state refl }
 
 seats_still : (asked : Call) (told : HostReply) → IsSeats asked → IsUntouching (Calls asked) (Host told)
 seats_still asked (host.Refused errno) r = tt
@@ -239,6 +242,15 @@ seats_still (call.DropCap caps) (host.Ok told) r = λ tree after object no. no
 seats_still (call.SetUmask mask) (host.Ok told) r = λ tree after object no. no
 seats_still asked (host.Ok told) r = absurd r
 
+seats_close : (asked : Call) → IsSeats asked → (fd : Fd) → sort_of asked ≡ EndsFd fd → ⊥
+seats_close (call.SetGroups list) r fd e = cc
+seats_close (call.SetEgid gid) r fd e = cc
+seats_close (call.SetEuid uid) r fd e = cc
+seats_close (call.RaiseCap caps) r fd e = cc
+seats_close (call.DropCap caps) r fd e = cc
+seats_close (call.SetUmask mask) r fd e = cc
+seats_close asked r fd e = absurd r
+
 -- one call on the seat
 pub seat_bares : (j : Thread) (w mid : Full) (asked : Call) (told : ActReply) → IsSeats asked →
     (LacksMemory told → ⊥) → Steps j w (made (Calls asked) told) mid → Bared j w mid
@@ -249,6 +261,7 @@ seat_bares j w mid asked told s n g =
         objects = ap (λ (v : World). v.tree.objects) e;
         same = go told n g;
       };
+      fds = fds told n g;
     }
   where
     go : (told : ActReply) → (LacksMemory told → ⊥) → Steps j w (made (Calls asked) told) mid →
@@ -259,9 +272,18 @@ seat_bares j w mid asked told s n g =
         left_same w mid asked told (seats_still asked told s)
         (does_leave_beside w.state w.seat asked told mid.state mid.seat g.made.0)
 
+    fds : (told : ActReply) → (LacksMemory told → ⊥) → Steps j w (made (Calls asked) told) mid →
+        KeepsFds w.state mid.state
+    fds NoCopy n g = absurd (n refl)
+    fds (Event told) n g = absurd g.made
+    fds (Host told) n g = fds_call w.state w.seat asked told mid.state mid.seat g.made.0 (seats_close asked s)
+
 pub bared_on : (j : Thread) (w mid on : Full) → Bared j w mid → Bared j mid on → Bared j w on
-bared_on j w mid on a b =
-    record { world = b.world ∙ a.world; keeps = alters_then w mid on (contents_at w) a.keeps b.keeps }
+bared_on j w mid on a b = record {
+  world = b.world ∙ a.world;
+  keeps = alters_then w mid on (contents_at w) a.keeps b.keeps;
+  fds = fds_on w.state mid.state on.state a.fds b.fds;
+}
 
 pub bared_step : (j : Thread) (w mid on : Full) (asked : Call) (told : ActReply) → IsSeats asked → Law (world_of w) →
     (LacksMemory told → ⊥) → Steps j w (made (Calls asked) told) mid → Bared j mid on → Bared j w on

@@ -33,11 +33,14 @@ use Rattle.pt_plain.proofs.Walking.{opened_name, Quiet, quiet_none, quiet_on, so
 use Rattle.pt_filled.specs.Contents.{valued, with_changed}
 use Rattle.pt_filled.specs.New.{IsInContext}
 use Rattle.pt_filled.specs.Told.{name_held}
+use Rattle.pt_filled.proofs.Descriptors.{KeepsFds, fds_none}
+use Rattle.pt_filled.proofs.Handling.{fds_goes}
 use Rattle.pt_filled.proofs.Hosting.{Alters, Full, Keeps, Respects, Thread, contents_at, objects_at, world_of}
 use Rattle.pt_filled.proofs.Moving.{was_rmdired, was_unlinked}
 use Rattle.pt_filled.proofs.News.{HasMade, made_changed, made_then}
-use Rattle.pt_filled.proofs.Parts.{At, At.{by}, Calm, IsRefused, Leaves, after_shut, calm_goes, calm_none, idles_calm}
-use Rattle.pt_filled.proofs.Parts.{in_bracket, keeps_on, leaves_keeps, quiet_makes, refused_from, walk_ask}
+use Rattle.pt_filled.proofs.Parts.{At, At.{by}, Calm, IsRefused, Leaves, calm_goes, calm_none, idles_calm}
+use Rattle.pt_filled.proofs.Parts.{keeps_on, leaves_keeps, quiet_makes, refused_from, walk_ask}
+use Rattle.pt_filled.proofs.Scopes.{after_shut, in_bracket}
 use Rattle.pt_filled.proofs.Tails.{named_leaves}
 use Rattle.pt_filled.proofs.Threading.{Makes}
 use Rattle.pt_filled.proofs.Valued.{IsHeldAs, walk_name}
@@ -96,7 +99,7 @@ walk_set : {G : Type 0} (j : Thread) (fd : Fd) (through : Bool) (name bytes : Li
     (next : Option Answer → RequestTree) (w : Full) (last : Answer) (w' : Full) (object : ℕ) →
     last ≢ answer.NoMemory → IsOpenOn (world_of w).tree fd object →
     At j (set_xattr fd through name bytes 0 next) w last w' → (IsRefused w last w' → G) →
-    ((on : Full) → Quiet (world_of w) (world_of on) →
+    ((on : Full) → Quiet (world_of w) (world_of on) → KeepsFds w.state on.state →
     Alters w on (with_changed object (valued name (Some bytes)) (contents_at w)) → At j (next None) on last w' → G) →
     ((errno : Errno) (on : Full) → Keeps w on → At j (next (Some (answer.Refused errno))) on last w' → G) → G
 walk_set {G} j fd through name bytes next w last w' object n o c out goes undo =
@@ -126,6 +129,8 @@ walk_set {G} j fd through name bytes next w last w' object n o c out goes undo =
         goes on
         (subst (λ (z : Full). Quiet (world_of w) (world_of z)) (sym i)
         (quiet_makes j w mid (Calls (call.SetXattr fd through name bytes 0)) (Host (host.Ok told)) m tt tt))
+        (subst (λ (z : Full). KeepsFds w.state z.state) (sym i)
+        (fds_goes j w mid (Calls (call.SetXattr fd through name bytes 0)) (Host (host.Ok told)) (λ fd e. cc) m.1 m.2))
         (subst (λ (z : Full). Alters w z (with_changed object (valued name (Some bytes)) (contents_at w))) (sym i)
         (was_set j w mid fd through name bytes 0 told object m.2 o).1)
         (subst (λ (r : Option Answer). At j (next r) on last w') (sym (some_is e)) k)
@@ -181,6 +186,11 @@ module _ (G : Type 0) (plan : Plan) (agreed : Negotiated) (j : Thread) (w h : Fu
   abbrev Goes : Option SecContext → RequestTree → Type 0
   Goes brought next = (on : Full) → Labelled plan agreed brought w h on kind was → At j next on last w' → G
 
+  -- what was open stays so
+  abbrev GoesOpen : Full → Option SecContext → RequestTree → Type 0
+  GoesOpen x brought next = (on : Full) → Labelled plan agreed brought w h on kind was → KeepsFds x.state on.state →
+      At j next on last w' → G
+
   -- it is bare, and the request is refused
   abbrev Lacks : Option SecContext → Type 0
   Lacks brought = IsRefused h last w' → is_some brought ≡ true → G
@@ -203,26 +213,26 @@ module _ (G : Type 0) (plan : Plan) (agreed : Negotiated) (j : Thread) (w h : Fu
       (through : Bool) (bytes : List ℕ) → bytes ≡ brought.value → (next : Option Answer → RequestTree) (x : Full) →
       Calm h x → IsOpenOn (world_of x).tree fd (length (objects_at w)) →
       At j (set_xattr fd through held bytes 0 next) x last w' → (IsRefused h last w' → G) →
-      Goes (Some brought) (next None) →
+      GoesOpen x (Some brought) (next None) →
       ((errno : Errno) (on : Full) → Keeps h on → At j (next (Some (answer.Refused errno))) on last w' → G) → G
   walk_kept brought held is fd through bytes same next x q o c out goes undo =
       walk_set j fd through held bytes next x last w' (length (objects_at w)) n o c
       (λ r. out (refused_from h x last w' q.keeps r))
-      (λ on quiet a k. goes on (record {
+      (λ on quiet fds a k. goes on (record {
         quiet = quiet_on (world_of h) (world_of x) (world_of on) q.quiet quiet;
         is = valued held (Some bytes) was;
         in_context = (held, is, ap (λ (v : List ℕ). valued held (Some v) was) same);
         made = made_changed w x on kind was (valued held (Some bytes)) (respects_value held bytes)
             (made_then w h x kind was m q.keeps) a;
-      }) k)
+      }) fds k)
       (λ errno on kept k. undo errno on (keeps_on h x on q.keeps kept) k)
 
   -- by the descriptor of a file that was made
   pub walk_labelled : (fd : Fd) (undoing : Call) (brought : Option SecContext) (label : Option Label) →
       IsLabelOf plan agreed brought label → IsUndoing undoing → (next : RequestTree) →
       IsOpenOn (world_of h).tree fd (length (objects_at w)) → At j (labelled fd undoing label next) h last w' →
-      Lacks brought → Goes brought next → G
-  walk_labelled fd undoing None None l u next o c out goes = goes h bare c
+      Lacks brought → GoesOpen h brought next → G
+  walk_labelled fd undoing None None l u next o c out goes = goes h bare (fds_none h.state h.state refl) c
   walk_labelled fd undoing None (Some label) l u next o c out goes = absurd l
   walk_labelled fd undoing (Some brought) None l u next o c out goes = absurd l
   walk_labelled fd undoing (Some brought) (Some label) l u next o c out goes = by_name label.name l.1 c
@@ -263,7 +273,8 @@ module _ (G : Type 0) (plan : Plan) (agreed : Negotiated) (j : Thread) (w h : Fu
 
       calm : (told : ActReply) (mid on : Full) → Makes j h (Calls asked) told mid → on ≡ mid → Calm h on
       calm told mid on z i = subst (λ (x : Full). Calm h x) (sym i)
-          (calm_goes j h mid (Calls asked) told z (named_leaves dir name told).0 (named_leaves dir name told).1 tt)
+          (calm_goes j h mid (Calls asked) told z (named_leaves dir name told).0 (named_leaves dir name told).1 tt
+          (λ fd e. cc))
 
       refuse : (held : List ℕ) (told : ActReply) (errno : Errno) (opened : Result Fd Answer) (mid on : Full) →
           Err (answer.Refused errno) ≡ opened → Makes j h (Calls asked) told mid → on ≡ mid →
@@ -285,7 +296,7 @@ module _ (G : Type 0) (plan : Plan) (agreed : Negotiated) (j : Thread) (w h : Fu
           (subst (λ (y : Full). IsOpenOn (world_of y).tree fd (length (objects_at w))) (sym i)
           (subst (λ (object : ℕ). IsOpenOn (world_of mid).tree fd object) same x.open_on))
           (subst (λ (r : Result Fd Answer). At j (set_opened held label.value r shuts) on last w') (sym (some_is e)) k)
-          (λ r. out r refl) had undo
+          (λ r. out r refl) (λ x l fds k. had x l k) undo
       tried held is (Host (host.Refused errno)) opened mid on e z i k =
           refuse held (Host (host.Refused errno)) errno opened mid on (some_is e) z i k
       tried held is (Host (host.Fault errno)) opened mid on e z i k =

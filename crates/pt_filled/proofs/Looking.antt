@@ -36,29 +36,37 @@ use Rattle.pt_law.proofs.Givings.{live_count}
 use Rattle.pt_law.proofs.Knowing.{Shows as ShowsFd, one_object}
 use Rattle.pt_law.proofs.Lists.{set_at_same}
 use Rattle.pt_plain.specs.Plain.{PlainTree}
+use Rattle.pt_rules.specs.State.{State, tree_of}
 use Rattle.pt_plain.proofs.Entering.{given_object}
 use Rattle.pt_plain.proofs.Showing.{bare_tree, Shows}
 use Rattle.pt_plain.proofs.Stilling.{still_goes}
 use Rattle.pt_plain.proofs.Walking.{opened_name, some_is}
 use Rattle.pt_filled.specs.Told.{NamesEntry}
+use Rattle.pt_filled.proofs.Descriptors.{LeavesFds, fds_leave, fds_none, fds_on}
 use Rattle.pt_filled.proofs.Effects.{StatOk, was_seen}
 use Rattle.pt_filled.proofs.Filling.{filled, objects_of, stands_from, stat_then}
+use Rattle.pt_filled.proofs.Handling.{fds_goes}
 use Rattle.pt_filled.proofs.Hosting.{Full, Keeps, Thread, objects_at, world_of}
-use Rattle.pt_filled.proofs.Parts.{after_shut, At, Calm, in_bracket, IsRefused, IsResolved, keeps_on, leaves_keeps}
+use Rattle.pt_filled.proofs.Parts.{At, Calm, IsRefused, IsResolved, keeps_on, leaves_keeps}
 use Rattle.pt_filled.proofs.Parts.{refused_from, walk_ask, walk_file, walk_read, walk_resolve, walk_stat}
+use Rattle.pt_filled.proofs.Scopes.{after_shut_fds, in_bracket}
 use Rattle.pt_filled.proofs.Tails.{named_leaves, stat_leaves}
 use Rattle.pt_filled.proofs.Threading.{IdlesBy, Makes}
 
 -- an event that neither tree nor past shows
 record IsHidden (w on : Full) : Type 0 where
   keeps : Keeps w on
-  tree : (world_of on).tree ≡ (world_of w).tree
+  state : on.state ≡ w.state
   past : on.past ≡ w.past
 
 hidden_by : (j : Thread) (w mid on : Full) (asked : Change) (told : ActReply) → Makes j w (Changes asked) told mid →
-    (world_of mid).tree ≡ (world_of w).tree → mid.past ≡ w.past → on ≡ mid → IsHidden w on
-hidden_by j w mid on asked told m t p i = subst (λ (z : Full). IsHidden w z) (sym i)
-    (record { keeps = leaves_keeps j w mid (Changes asked) told m tt; tree = t; past = p })
+    mid.state ≡ w.state → mid.past ≡ w.past → on ≡ mid → IsHidden w on
+hidden_by j w mid on asked told m s p i = subst (λ (z : Full). IsHidden w z) (sym i)
+    (record { keeps = leaves_keeps j w mid (Changes asked) told m tt; state = s; past = p })
+
+shows_by : (w on : Full) (fd : Fd) (object : ℕ) (ids : ObjIds) → on.state ≡ w.state →
+    ShowsFd (world_of w).tree fd object ids → ShowsFd (world_of on).tree fd object ids
+shows_by w on fd object ids e s = subst (λ (z : State). ShowsFd (tree_of z) fd object ids) (sym e) s
 
 shows_on : (w on : Full) (fd : Fd) (object : ℕ) (ids : ObjIds) → (world_of on).tree ≡ (world_of w).tree →
     ShowsFd (world_of w).tree fd object ids → ShowsFd (world_of on).tree fd object ids
@@ -68,9 +76,8 @@ module _ (G : Type 0) (j : Thread) (session : BegunSession) (fd : Fd) (seen : St
     (last : Answer) (w' : Full) (object : ℕ) (n : last ≢ answer.NoMemory) where
   -- the number stands for the object of what was opened
   abbrev Goes : Full → Type 0
-  Goes w = (number : ℕ) (on : Full) → Keeps w on → on.past.numbers number ≡ Some object → At j (next number) on last
-      w' →
-      G
+  Goes w = (number : ℕ) (on : Full) → Keeps w on → on.state ≡ w.state → on.past.numbers number ≡ Some object →
+      At j (next number) on last w' → G
 
   abbrev new_row : ℕ → Change
   new_row fresh = change.Insert (new_row_of session.era fresh (File fd) seen)
@@ -89,6 +96,7 @@ module _ (G : Type 0) (j : Thread) (session : BegunSession) (fd : Fd) (seen : St
           ∙ latest in
           goes number on
           (subst (λ (z : Full). Keeps w z) (sym i) (leaves_keeps j w mid (Changes (new_row fresh)) _ m tt))
+          (ap (λ (z : Full). z.state) i ∙ m.2.made.1)
           (subst (λ (z : Full). z.past.numbers number ≡ Some object) (sym i)
           (subst (λ (z : ℕ). mid.past.numbers z ≡ Some object) (some_is e) is)) k
       inserted (Event (event.Found given)) number mid on e m i k =
@@ -97,6 +105,7 @@ module _ (G : Type 0) (j : Thread) (session : BegunSession) (fd : Fd) (seen : St
           (Changes (new_row fresh)) _ fd object given.number seen.ids (m.0, m.1, m.2.goes) sh h.1 in
           goes number on
           (subst (λ (z : Full). Keeps w z) (sym i) (leaves_keeps j w mid (Changes (new_row fresh)) _ m tt))
+          (ap (λ (z : Full). z.state) i ∙ m.2.made.1)
           (subst (λ (z : Full). z.past.numbers number ≡ Some object) (sym i)
           (subst (λ (z : ℕ). mid.past.numbers z ≡ Some object) (some_is e) is)) k
       inserted told number mid on e m i k = absurd (cc)
@@ -110,18 +119,18 @@ module _ (G : Type 0) (j : Thread) (session : BegunSession) (fd : Fd) (seen : St
           Makes j a (Changes change.DrawNode) told mid → IdlesBy j (closings_in (Changes change.DrawNode) told) mid on →
           At j (insert session fresh (File fd) seen next) on last w' → G
       drawn a h (Event (event.Drawn number)) fresh mid on e m i k =
-          let g = hidden_by j a mid on change.DrawNode _ m m.2.goes.made.1 m.2.goes.past i in
+          let g = hidden_by j a mid on change.DrawNode _ m m.2.made.1 m.2.goes.past i in
           let kept = keeps_on w a on h.keeps g.keeps in
-          walk_insert fresh on (shows_on w on fd object seen.ids (g.tree ∙ h.tree) sh)
+          walk_insert fresh on (shows_by w on fd object seen.ids (g.state ∙ h.state) sh)
           (ap (λ p. p.latest j.job) (g.past ∙ h.past) ∙ latest) k (λ r. out (refused_from w on last w' kept r))
-          (λ number b x y z. goes number b (keeps_on w on b kept x) y z)
+          (λ number b x s y z. goes number b (keeps_on w on b kept x) (s ∙ g.state ∙ h.state) y z)
       drawn a h told fresh mid on e m i k = absurd (cc)
 
       taken : (told : ActReply) (done : Unit {0}) (mid on : Full) → taken_in told ≡ Some done →
           Makes j w (Changes change.TakeFd) told mid → IdlesBy j (closings_in (Changes change.TakeFd) told) mid on →
           At j (draw_node (λ fresh. insert session fresh (File fd) seen next)) on last w' → G
       taken (Event event.Taken) done mid on e m i k =
-          let h = hidden_by j w mid on change.TakeFd _ m m.2.goes.made.1 m.2.goes.past i in
+          let h = hidden_by j w mid on change.TakeFd _ m m.2.made.1 m.2.goes.past i in
           walk_ask j (Changes change.DrawNode) drawn_in _ on last w' n (λ told e. tt) k
           (λ r. out (refused_from w on last w' h.keeps r)) (drawn on h)
       taken told done mid on e m i k = absurd (cc)
@@ -143,14 +152,15 @@ module _ (G : Type 0) (j : Thread) (session : BegunSession) (fd : Fd) (seen : St
           (Changes asked) _ fd object given.number seen.ids (m.0, m.1, m.2.goes) sh h.1 in
           goes given.number on
           (subst (λ (z : Full). Keeps w z) (sym i) (leaves_keeps j w mid (Changes asked) _ m tt))
+          (ap (λ (z : Full). z.state) i ∙ m.2.made.1)
           (subst (λ (z : Full). z.past.numbers given.number ≡ Some object) (sym i) is)
           (subst (λ (x : Option ℕ). At j (numbered_as session (File fd) seen x next) on last w') (sym (some_is e)) k)
       claimed (Event event.Absent) given mid on e m i k =
-          let h = hidden_by j w mid on asked _ m m.2.goes.made.1 m.2.goes.past i in
-          walk_anew on (shows_on w on fd object seen.ids h.tree sh) (ap (λ p. p.latest j.job) h.past ∙ latest)
+          let h = hidden_by j w mid on asked _ m m.2.made.1 m.2.goes.past i in
+          walk_anew on (shows_by w on fd object seen.ids h.state sh) (ap (λ p. p.latest j.job) h.past ∙ latest)
           (subst (λ (x : Option ℕ). At j (numbered_as session (File fd) seen x next) on last w') (sym (some_is e)) k)
-          (λ r. out (refused_from w on last w' h.keeps r)) (λ number b x y z. goes number b (keeps_on w on b h.keeps
-          x) y z)
+          (λ r. out (refused_from w on last w' h.keeps r)) (λ number b x s y z.
+          goes number b (keeps_on w on b h.keeps x) (s ∙ h.state) y z)
       claimed told given mid on e m i k = absurd (cc)
 
 -- A name was looked up in the directory of its parent; its object has this number now, and this was told of it.
@@ -173,6 +183,7 @@ pub record IsLooked (plan : Plan) (agreed : Negotiated) (w on : Full) (parent : 
   pub parent_is : Object
   pub is_parent : slice_get (objects_at w) dir ≡ Some parent_is
   pub is_entry : entry ≡ entry_of plan agreed parent_is.ids told entry.inode
+  pub fds : LeavesFds w.state on.state
 
 pub walk_look_up : {G : Type 0} (j : Thread) (plan : Plan) (session : BegunSession) (parent : ℕ) (name : List ℕ)
     (next : Looked → RequestTree) (w : Full) (last : Answer) (w' : Full) → last ≢ answer.NoMemory →
@@ -232,8 +243,8 @@ walk_look_up {G} j plan session parent name next w last w' n c out goes =
             let ok = was_seen j b d fd told o.object md.2 o.open_on in
             walk_numbered G j session fd told (numbers directory told) last w' o.object n d
             (shows_on b d fd o.object told.ids s.5 shows) (ap (λ p. p.latest j.job) md.2.goes.past ∙ o.latest) cd
-            (λ r. out (refused_from w d last w' kd r)) (λ number x ke is ce.
-            after_shut ce (λ f idle cf.
+            (λ r. out (refused_from w d last w' kd r)) (λ number x ke same_state is ce.
+            after_shut_fds ce (λ f idle had cf.
             goes (looked_of plan session directory.ids told number) told f (record {
               keeps = keeps_on w d f kd (keeps_on d x f ke idle.keeps);
               dir = ra.there.object;
@@ -255,6 +266,11 @@ walk_look_up {G} j plan session parent name next w last w' n c out goes =
               parent_is = ra.what;
               is_parent = ra.is_what;
               is_entry = ap (λ (ids : ObjIds). entry_of plan session.agreed ids told number) (sym ra.ids);
+              fds = fds_leave w.state x.state f.state (fds_on w.state b.state x.state
+                  (fds_on w.state a.state b.state (fds_none w.state a.state ra.state) (fds_goes j a b
+                  (Calls (call.OpenAt (fd_of directory.form) name by_path 0)) _ (λ fd e. cc) mb.1 mb.2))
+                  (fds_on b.state d.state x.state (fds_goes j b d (Calls (call.Stat fd)) _ (λ fd e. cc) md.1 md.2)
+                  (fds_none d.state x.state same_state))) had;
             }) refl cf))
     opened directory a ra fd said b e mb kb cb = absurd (cc)
 

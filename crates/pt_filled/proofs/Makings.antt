@@ -51,8 +51,9 @@ use Rattle.pt_filled.proofs.Hosting.{Full, Keeps, Thread, world_of, Bared, bared
 use Rattle.pt_filled.proofs.Labelling.{IsLabelOf, IsLeftBare, IsMadeWhole, IsUndoing, Labelled, led_new, left_bare}
 use Rattle.pt_filled.proofs.Labelling.{walk_label, walk_labelled_at}
 use Rattle.pt_filled.proofs.Parts.{At, Calm, IsRefused, comes_at, idles_calm, keeps_on, leaves_keeps, refused_from}
-use Rattle.pt_filled.proofs.Parts.{walk_begin, bared_calm, calm_on, walk_scope, walk_named, At.{by}, refused_at}
-use Rattle.pt_filled.proofs.Parts.{refused_with, walk_if, walk_resolve, walk_file, walk_try, IsResolved}
+use Rattle.pt_filled.proofs.Parts.{walk_begin, bared_calm, calm_on, walk_named, At.{by}, refused_at}
+use Rattle.pt_filled.proofs.Parts.{refused_with, walk_if, walk_resolve, walk_file, IsResolved}
+use Rattle.pt_filled.proofs.Scopes.{walk_scope, walk_try}
 use Rattle.pt_filled.proofs.Threading.{Comes, Makes, comes_law}
 use Rattle.pt_filled.proofs.Looking.{IsLooked, IsToldSo, walk_look_up}
 use Rattle.pt_filled.proofs.Entries.{looked_tree}

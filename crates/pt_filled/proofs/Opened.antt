@@ -5,7 +5,7 @@ use Rattle.std.proofs.Common.{inl, inr, ◌≡◌, ◌≢◌, ◌<◌, ℕ, List
 use Rattle.std.proofs.Common.{subst, ◌∙◌, slice_get, ◌==◌, cond, ◌⊎◌, ◌-◌, ◌^◌, not}
 use Rattle.std.proofs.lemmas.Nat.{and_or_apart, and_assoc}
 use Rattle.pt_host.specs.Contents.{ObjectContents}
-use Rattle.pt_host.specs.Tree.{Tree, Object, IsOpenOn}
+use Rattle.pt_host.specs.Tree.{Tree, Object, Opened, IsOpenOn}
 use Rattle.pt_host.specs.Flags.{includes, o_directory, o_trunc, o_path}
 use Rattle.pt_host.specs.Errno.{ebadf}
 use Rattle.pt_host.specs.declared.ids.Errno.{Errno}
@@ -38,14 +38,19 @@ use Rattle.pt_law.specs.World.{fd_of, World}
 use Rattle.pt_law.specs.Under.{seat_lacking}
 use Rattle.pt_law.proofs.Givings.{live_count}
 use Rattle.pt_fit.specs.Asker.{fsetid_if}
+use Rattle.pt_filled.specs.Accesses.{opened_for}
 use Rattle.pt_filled.specs.Contents.{is_file_kind, keeps_set_id, with_changed, emptied}
 use Rattle.pt_filled.specs.Contents.{truncates, uncapped, uncapped_if}
 use Rattle.pt_filled.proofs.Hosting.{Full, Keeps, Thread, contents_at, world_of, Alters, Respects, objects_at}
 use Rattle.pt_filled.proofs.Hosting.{alters_on, alters_then, keeps_none}
-use Rattle.pt_filled.proofs.Parts.{At, Calm, IsRefused, comes_at, keeps_on, refused_from, bared_calm, calm_on, unbare}
-use Rattle.pt_filled.proofs.Parts.{in_bracket, IsResolved, walk_reopen, walk_resolve, walk_unless}
+use Rattle.pt_filled.proofs.Parts.{At, Calm, IsRefused, comes_at, keeps_on, refused_from, bared_calm, calm_on}
+use Rattle.pt_filled.proofs.Parts.{IsResolved, walk_reopen, walk_resolve, walk_unless}
+use Rattle.pt_filled.proofs.Scopes.{in_bracket, unbare}
 use Rattle.pt_filled.proofs.Threading.{Makes, comes_law}
 use Rattle.pt_filled.proofs.Clearing.{alters_twice, walk_clear, within_at}
+use Rattle.pt_filled.proofs.Descriptors.{IsOpenAs, access_in, opened_as_asked}
+use Rattle.pt_filled.proofs.Lending.{Lends, lends_as, lends_handled, lends_shut}
+use Rattle.pt_filled.proofs.Modes.{asks_opened}
 use Rattle.pt_filled.proofs.Setting.{opened_anew}
 use Rattle.pt_filled.proofs.Effects.{reopened_directory, was_reopened}
 use Rattle.pt_filled.proofs.Staying.{left_by}
@@ -173,21 +178,23 @@ abbrev pub emptied_so : Plan → HostSeat → Bool → ℕ → Bool → ObjectCo
 emptied_so plan seat kill flags file was = emptied (keeps_set_id plan seat kill) (file && truncates flags) was
 
 -- What an opening that begins in the second world leaves of contents, however it ends: it was refused before, or the
--- object was emptied, or not.
-abbrev pub OpensSo : Plan → HostSeat → Bool → ℕ → ℕ → Full → Full → Answer → Full → Type 0
-OpensSo plan seat kill flags inode w b last w' =
+-- object was emptied, or not; and what its handle may be used for.
+abbrev pub OpensSo :
+    Thread → Plan → Negotiated → Bool → ℕ → ℕ → (ℕ → RequestTree) → Full → Full → Answer → Full → Type 0
+OpensSo j plan agreed kill flags inode next w b last w' =
     ((errno : Errno) × (last ≡ answer.Refused errno) × Keeps w w')
     ⊎ ((object : ℕ) × (d : Full) × Calm b d × (d.past.numbers inode ≡ Some object) × (0 < live_count inode d.tables)
     × ClearsSo (includes flags o_trunc) plan.capability w last w' object
-    (emptied_so plan seat kill flags (is_file_kind (slice_get (objects_at w) object)))
-    × (includes flags o_directory ≡ true → is_file_kind (slice_get (objects_at w) object) ≡ false))
+    (emptied_so plan j.seat kill flags (is_file_kind (slice_get (objects_at w) object)))
+    × (includes flags o_directory ≡ true → is_file_kind (slice_get (objects_at w) object) ≡ false)
+    × Lends j (opened_for agreed flags) next last w')
 
 pub opens_so : (plan : Plan) (session : BegunSession) (inode : ℕ) (kill : Bool) (flags : ℕ) (next : ℕ → RequestTree)
     (j : Thread) (w b : Full) (last : Answer) (w' : Full) → last ≢ answer.NoMemory →
     ((fd : Fd) (how : OpenFlags) → j.role.lacks (call.Reopen fd how) ≡ fsetid_if (drops_fsetid plan j.seat kill)) →
     ((handle : ℕ) → Leaving (next handle)) → Keeps w b →
     At j (open_num plan j.seat session inode kill flags next) b last w' →
-    OpensSo plan j.seat kill flags inode w b last w'
+    OpensSo j plan session.agreed kill flags inode next w b last w'
 unfolding open_row
 opens_so plan session inode kill flags next j w b last w' n lacks leaves kb cb =
     walk_without j (drops_fsetid plan j.seat kill) opens b last w' n (in_bracket cb) out (λ d bd cd.
@@ -214,7 +221,10 @@ opens_so plan session inode kill flags next j w b last w' n lacks leaves kb cb =
     opens : RequestTree
     opens = open_inode plan session inode (cleaned plan.config flags) bares
 
-    out : IsRefused b last w' → OpensSo plan j.seat kill flags inode w b last w'
+    Goal : Type 0
+    Goal = OpensSo j plan session.agreed kill flags inode next w b last w'
+
+    out : IsRefused b last w' → Goal
     out r = inl (r.errno, r.is, keeps_on w b w' kb r.keeps)
 
     keeps : Bool
@@ -244,10 +254,40 @@ opens_so plan session inode kill flags next j w b last w' n lacks leaves kb cb =
         cleared (includes flags o_trunc) g new object change (alters_then w f g _ a bg.keeps)
         (subst (λ (t : Tree). IsOpenOn t new object) (sym (ap (λ (v : World). v.tree) bg.world)) o) cg)
 
+    -- what is opened stays so until it gets a handle
+    lends_then : (g : Full) (new : Fd) → At j (handles new) g last w' → Lends j (access_in g.state new) next last w'
+    lends_then g new c =
+        lends_shut j _ next last w' (lends_as j g.state new _ last w'
+        (lends_handled j session inode new (λ handle. Shuts false (next handle)) last w' n g c))
+
+    lends_cleared : (b : Bool) (g : Full) (new : Fd) (opened : Opened) → IsOpenAs g.state new opened →
+        At j (cleared_if b plan.capability new (handles new)) g last w' → Lends j (access_in g.state new) next last w'
+    lends_cleared false g new opened o c = lends_then g new c
+    lends_cleared true g new opened o c =
+        walk_clear j plan.capability new false (handles new) g g (contents_at g) opened.object last w' n
+        (opened, o, refl) (keeps_none g) c (λ r. inl (r.errno, r.is)) (λ y u k.
+        let s = u.fds new opened o in
+        subst (λ (a : ℕ). Lends j a next last w') s.1 (lends_then y new k))
+
+    lends_from : (f : Full) (new : Fd) (opened : Opened) → IsOpenAs f.state new opened →
+        At j (bares new) f last w' → Lends j (access_in f.state new) next last w'
+    lends_from f new opened o c = unbare c (λ g bg cg.
+        let s = bg.fds new opened o in
+        subst (λ (a : ℕ). Lends j a next last w') s.1 (lends_cleared (includes flags o_trunc) g new opened s.0 cg))
+
+    lends : (e f : Full) (fd new : Fd) →
+        Makes j e (Calls (call.Reopen fd (without_nofollow flags_in))) (Host (host.Ok (value.Fd new))) f →
+        At j (bares new) f last w' → Lends j (opened_for session.agreed flags) next last w'
+    lends e f fd new m c =
+        let s = opened_as_asked e.state e.seat (call.Reopen fd (without_nofollow flags_in)) (host.Ok (value.Fd new))
+        f.state f.seat m.2.made.0 new (without_nofollow flags_in) refl refl in
+        subst (λ (a : ℕ). Lends j a next last w') (s.1 ∙ asks_opened plan session.agreed flags)
+        (lends_from f new s.0.0 s.0.1 c)
+
     reopened : (d e f : Full) (fd new : Fd) (object : ℕ) → Calm b d → Keeps d e → d.past.numbers inode ≡ Some object →
         0 < live_count inode d.tables → IsOpenOn (world_of e).tree fd object →
         Makes j e (Calls (call.Reopen fd (without_nofollow flags_in))) (Host (host.Ok (value.Fd new))) f →
-        At j (bares new) f last w' → OpensSo plan j.seat kill flags inode w b last w'
+        At j (bares new) f last w' → Goal
     reopened d e f fd new object qd kd is live o m k =
         let qe = keeps_on w b e kb (keeps_on b d e qd.keeps kd) in
         let by_seat = subst (λ (l : Option Caps). e.seat ≡ seat_lacking l j.seat)
@@ -278,11 +318,11 @@ opens_so plan session inode kill flags next j w b last w' n lacks leaves kb cb =
           λ asks. sym file ∙ reopened_directory j e f fd (without_nofollow flags_in) (value.Fd new) object m.2 o
               (ap (λ (n : ℕ). n == o_directory) (opened_same plan session.agreed flags o_directory foreign_directory)
               ∙ asks),
+          lends e f fd new m k,
         )
 
     form_opens : (form : RowForm) (d e : Full) (row : Resolved) → row.form ≡ form → Calm b d →
-        (re : IsResolved j d e inode row) → At j (open_form form flags_in bares) e last w' →
-        OpensSo plan j.seat kill flags inode w b last w'
+        (re : IsResolved j d e inode row) → At j (open_form form flags_in bares) e last w' → Goal
     form_opens (File fd) d e row same qd re c =
         let o = subst (λ (f : RowForm). IsOpenOn (world_of e).tree (fd_of f) re.there.object) same
         (subst (λ (t : Tree). IsOpenOn t (fd_of row.form) re.there.object) (sym re.there.tree) re.there.open_on) in

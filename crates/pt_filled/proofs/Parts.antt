@@ -29,10 +29,9 @@ use Rattle.pt_frame.specs.Tree.{RequestTree, Gives, Refuses, Asks, Opens, Bares,
 use Rattle.pt_frame.specs.Tree.{go_on}
 use Rattle.pt_frame.specs.declared.act.ActReply.{ActReply}
 use Rattle.pt_frame.specs.declared.act.ActReply.TheVariants.{Event, Host, NoCopy}
-use Rattle.pt_frame.specs.declared.hold.Hold.{Hold}
 use Rattle.pt_req.specs.Entries.{is_bad_name, is_bad_offset}
 use Rattle.pt_req.specs.Parts.{file_of, named, placed}
-use Rattle.pt_req.specs.Steps.{begin, began_in, resolve, resolved_in, ok_in, open_scope, try_call, tried_in, stat}
+use Rattle.pt_req.specs.Steps.{begin, began_in, resolve, resolved_in, ok_in, stat}
 use Rattle.pt_req.specs.Steps.{stat_in, pin_handle, pinned_in, reopen, fd_in}
 use Rattle.pt_req.specs.declared.begun.BegunSession.{BegunSession}
 use Rattle.pt_attr.specs.Parts.{files_by, two_files}
@@ -50,25 +49,31 @@ use Rattle.pt_plain.proofs.Showing.{bare_tree, handle_at, handled}
 use Rattle.pt_plain.proofs.Stilling.{IsStill, still_goes}
 use Rattle.pt_plain.proofs.Walking.{Quiet, quiet_none, quiet_on, quiet_goes, idles_quiet, GivesNone, refusal_is}
 use Rattle.pt_plain.proofs.Walking.{some_is, IsResolved as IsResolvedThere, resolved_row}
+use Rattle.pt_filled.proofs.Descriptors.{access_in}
+use Rattle.pt_filled.proofs.Handling.{EndsNone, KeepsLent, access_by, access_of, accesses_at, lent_goes, lent_none}
+use Rattle.pt_filled.proofs.Handling.{lent_returns, lent_same, lent_then}
 use Rattle.pt_filled.proofs.Hosting.{Full, Thread, Keeps, Bared, IsUntouching, world_of, keeps_none, keeps_goes}
 use Rattle.pt_filled.proofs.Hosting.{keeps_returns, keeps_state, alters_then, contents_at, objects_at, seat_bares}
 use Rattle.pt_filled.proofs.Threading.{Walks, Idles, IdlesBy, Makes, Comes}
 
--- neither what the plain file system sees changed, but that counts may have fallen, nor contents
+-- neither what the plain file system sees changed, but that counts may have fallen, nor contents, nor what handles may
+-- be used for
 pub record Calm (w on : Full) : Type 0 where
   pub quiet : Quiet (world_of w) (world_of on)
   pub keeps : Keeps w on
+  pub lent : KeepsLent w on
 
 pub keeps_on : (w mid on : Full) → Keeps w mid → Keeps mid on → Keeps w on
 keeps_on w mid on a b = alters_then w mid on (contents_at w) a b
 
 pub calm_none : (w : Full) → Calm w w
-calm_none w = record { quiet = quiet_none (world_of w); keeps = keeps_none w }
+calm_none w = record { quiet = quiet_none (world_of w); keeps = keeps_none w; lent = lent_none w }
 
 pub calm_on : (w mid on : Full) → Calm w mid → Calm mid on → Calm w on
 calm_on w mid on a b = record {
   quiet = quiet_on (world_of w) (world_of mid) (world_of on) a.quiet b.quiet;
   keeps = keeps_on w mid on a.keeps b.keeps;
+  lent = lent_then w mid on a.lent b.lent;
 }
 
 pub quiet_makes : (j : Thread) (w on : Full) (deed : Deed) (told : ActReply) → Makes j w deed told on →
@@ -76,10 +81,11 @@ pub quiet_makes : (j : Thread) (w on : Full) (deed : Deed) (told : ActReply) →
 quiet_makes j w on deed told m s g = quiet_goes j.job (world_of w) (world_of on) deed told (m.0, m.1, m.2.goes) s g
 
 pub calm_goes : (j : Thread) (w on : Full) (deed : Deed) (told : ActReply) → Makes j w deed told on →
-    IsStill deed told → IsUntouching deed told → GivesNone deed told → Calm w on
-calm_goes j w on deed told m s u g = record {
+    IsStill deed told → IsUntouching deed told → GivesNone deed told → EndsNone deed → Calm w on
+calm_goes j w on deed told m s u g e = record {
   quiet = quiet_makes j w on deed told m s g;
   keeps = keeps_goes j w on deed told s u m.1 m.2;
+  lent = lent_goes j w on deed told m.0 s e m.1 m.2;
 }
 
 pub world_walks : (j : Thread) (steps : List Step) (w on : Full) → Walks j w steps on →
@@ -97,6 +103,7 @@ pub idles_calm : (j : Thread) (w on : Full) → Idles j w on → Calm w on
 idles_calm j w on i = record {
   quiet = idles_quiet j.job (world_of w) (world_of on) (i.0, i.1, world_walks j i.0 w on i.2);
   keeps = walks_keep j i.0 w on i.1 i.2;
+  lent = lent_returns j w on i.0 i.1 i.2;
 }
 
 pub by_calm : (j : Thread) (count : ℕ) (w on : Full) → IdlesBy j count w on → Calm w on
@@ -107,6 +114,7 @@ pub bared_calm : (j : Thread) (w on : Full) → Bared j w on → Calm w on
 bared_calm j w on b = record {
   quiet = subst (λ (z : World). Quiet (world_of w) z) (sym b.world) (quiet_none (world_of w));
   keeps = b.keeps;
+  lent = lent_same w on b.world b.fds;
 }
 
 -- ---- what holds of each deed of a tree
@@ -265,9 +273,9 @@ walk_placed j offset next w last w' c out goes = walk_if j (is_bad_offset offset
 
 -- a step by an event that leaves all but counts, which may fall
 calm_ask : (j : Thread) (w mid on : Full) (deed : Deed) (told : ActReply) → IsStill deed told → IsUntouching deed told →
-    GivesNone deed told → Makes j w deed told mid → IdlesBy j (closings_in deed told) mid on → Calm w on
-calm_ask j w mid on deed told s u g m i =
-    calm_on w mid on (calm_goes j w mid deed told m s u g) (by_calm j (closings_in deed told) mid on i)
+    GivesNone deed told → EndsNone deed → Makes j w deed told mid → IdlesBy j (closings_in deed told) mid on → Calm w on
+calm_ask j w mid on deed told s u g e m i =
+    calm_on w mid on (calm_goes j w mid deed told m s u g e) (by_calm j (closings_in deed told) mid on i)
 
 -- a session goes on as it stands
 pub walk_begin : {G : Type 0} (j : Thread) (next : BegunSession → RequestTree) (w : Full) (last : Answer) (w' : Full) →
@@ -282,13 +290,14 @@ walk_begin {G} j next w last w' n c out goes =
         At j (next session) on last w' → G
     go (Event (event.Began era agreed)) session mid on e m i k =
         let h = cases w.tables mid.tables change.Begin (event.Began era agreed) m.2.goes.made.0 in
-        goes session on (calm_ask j w mid on (Changes change.Begin) _ tt tt tt m i)
+        goes session on (calm_ask j w mid on (Changes change.Begin) _ tt tt tt tt m i)
         (sym (ap (λ (s : BegunSession). s.agreed) (some_is e)) ∙ h.1) k
     go told session mid on e m i k = absurd (cc)
 
 -- the number was found, its descriptor is open on its object, and its ids are the object's
 pub record IsResolved (j : Thread) (w on : Full) (number : ℕ) (row : Resolved) : Type 0 where
   pub calm : Calm w on
+  pub state : on.state ≡ w.state
   pub there : IsResolvedThere j.job (world_of w) (world_of on) number (fd_of row.form)
   pub what : Object
   pub is_what : slice_get (objects_at w) there.object ≡ Some what
@@ -302,7 +311,8 @@ resolved_so j w on number row m =
     let r = resolved_row j.job (world_of w) (world_of on) number row (m.0, m.1, m.2.goes) in
     let same = one_object (world_of w).tree (fd_of row.form) o.object r.object
     (subst (λ (f : RowForm). IsOpenOn (world_of w).tree (fd_of f) o.object) h.3 o.shows.open_on) r.open_on in record {
-      calm = calm_goes j w on (Changes (change.Resolve number)) _ m tt tt tt;
+      calm = calm_goes j w on (Changes (change.Resolve number)) _ m tt tt tt tt;
+      state = m.2.made.1;
       there = r;
       what = o.shows.what;
       is_what = subst (λ (z : ℕ). slice_get (objects_at w) z ≡ Some o.shows.what) same o.shows.is_object;
@@ -331,9 +341,11 @@ walk_file j (File fd) next w last w' (by c) goes = goes (by c)
 pub record IsPinned (w on : Full) (handle number : ℕ) (fd : Fd) : Type 0 where
   pub calm : Calm w on
   pub tree : (world_of on).tree ≡ (world_of w).tree
+  pub state : on.state ≡ w.state
   pub object : ℕ
   pub was : handle_at (world_of w) handle ≡ handled_as number object
   pub open_on : IsOpenOn (world_of w).tree fd object
+  pub lends : accesses_at w handle ≡ access_in on.state fd
 
 pub walk_pin : {G : Type 0} (j : Thread) (handle number : ℕ) (next : Fd → RequestTree) (w : Full) (last : Answer)
     (w' : Full) → last ≢ answer.NoMemory → At j (pin_handle handle number next) w last w' →
@@ -349,11 +361,16 @@ walk_pin {G} j handle number next w last w' n c out goes =
         let h = cases w.tables mid.tables (change.PinHandle handle number) (event.Pinned serial fd) m.2.goes.made.0 in
         let o = each_replaced (HandleOpen (world_of w).tree w.past) h.5.1 m.0.handled in
         let f = pinned_row w.past.objects handle h.5.1 h.1.0 h.1.1 m.0.agree.handles_apart in record {
-          calm = calm_goes j w mid (Changes (change.PinHandle handle number)) _ m tt tt tt;
+          calm = calm_goes j w mid (Changes (change.PinHandle handle number)) _ m tt tt tt tt;
           tree = m.2.goes.made.1;
+          state = m.2.made.1;
           object = o.object;
           was = f ∙ ap (handled h.0.number) o.placed ∙ ap (λ (x : ℕ). handled_as x o.object) h.1.2;
           open_on = subst (λ (f : Fd). IsOpenOn (world_of w).tree f o.object) h.3 o.open_on;
+          lends = ap (access_by w)
+              (pinned_row (λ serial. Some serial) handle h.5.1 h.1.0 h.1.1 m.0.agree.handles_apart)
+              ∙ ap (access_of w.state) (o.kept_by ∙ ap (λ (f : Fd). Some f) h.3)
+              ∙ ap (λ (s : State). access_in s fd) (sym m.2.made.1);
         }
 
     go : (told : ActReply) (fd : Fd) (mid on : Full) → pinned_in told ≡ Some fd →
@@ -502,43 +519,6 @@ walk_bytes {G} j asked next w last w' n l c out goes = walk_read j asked bytes_o
         goes bytes on (subst (λ (s : List ℕ). Makes j w (Calls asked) (Host (host.Ok (value.Bytes s))) on) (some_is e)
         m) k c
     go bytes said on e m k c = absurd (cc)
-
--- a scope opens, which no world shows
-pub walk_scope : {G : Type 0} (j : Thread) (asked : Call) (scope : Hold) (next : RequestTree) (w : Full) (last : Answer)
-    (w' : Full) → IsSeats asked → last ≢ answer.NoMemory → At j (open_scope asked scope next) w last w' →
-    (IsRefused w last w' → G) → ((on : Full) → Bared j w on → At j next on last w' → G) → G
-unfolding on go_on
-walk_scope {G} j asked scope next w last w' s n (by c) out goes = go (ok_in c.0) c.3
-  where
-    go : (done : Option (Unit {0})) → Comes j (go_on (λ done. next) c.0 done) c.1 last w' → G
-    go (Some done) k = goes c.1 (seat_bares j w c.1 asked c.0 s c.2.1 c.2.2) (by k)
-    go None k =
-        out (refused_at j w c.1 c.0 last w' n (seat_bares j w c.1 asked c.0 s c.2.1 c.2.2).keeps k)
-
-pub unbare : {G : Type 0} {j : Thread} {tree : RequestTree} {w w' : Full} {last : Answer} →
-    At j (Bares tree) w last w' → ((on : Full) → Bared j w on → At j tree on last w' → G) → G
-unbare (by c) goes = goes c.0 c.1 (by c.2)
-
-pub in_bracket : {j : Thread} {tree : RequestTree} {w w' : Full} {last : Answer} → At j (Brackets tree) w last w' →
-    At j tree w last w'
-in_bracket (by c) = by c
-
-pub after_shut : {G : Type 0} {j : Thread} {tree : RequestTree} {passes : Bool} {w w' : Full} {last : Answer} →
-    At j (Shuts passes tree) w last w' → ((on : Full) → Calm w on → At j tree on last w' → G) → G
-after_shut {j = j} {w = w} (by c) goes = goes c.0 (idles_calm j w c.0 c.1) (by c.2)
-
--- a call on the seat that the host may refuse
-pub walk_try : {G : Type 0} (j : Thread) (asked : Call) (next : RequestTree) (w : Full) (last : Answer) (w' : Full) →
-    IsSeats asked → last ≢ answer.NoMemory → At j (try_call asked next) w last w' → (IsRefused w last w' → G) →
-    ((on : Full) → Bared j w on → At j next on last w' → G) → G
-unfolding on go_on
-walk_try {G} j asked next w last w' s n (by c) out goes = go (tried_in c.0) (subst (λ (z : Full). Comes j (go_on (λ
-    done. next) c.0 (tried_in c.0)) z last w') c.4 c.5)
-  where
-    go : (done : Option (Unit {0})) → Comes j (go_on (λ done. next) c.0 done) c.1 last w' → G
-    go (Some done) k = goes c.1 (seat_bares j w c.1 asked c.0 s c.3.1 c.3.2) (by k)
-    go None k =
-        out (refused_at j w c.1 c.0 last w' n (seat_bares j w c.1 asked c.0 s c.3.1 c.3.2).keeps k)
 
 -- what is open is opened anew
 pub walk_reopen : {G : Type 0} (j : Thread) (fd : Fd) (flags : OpenFlags) (next : Fd → RequestTree) (w : Full)

@@ -33,6 +33,7 @@ use Rattle.pt_rules.specs.State.{contents_where, tree_of}
 use Rattle.pt_plain.specs.Plain.{PlainTree}
 use Rattle.pt_plain.proofs.Stilling.{IsStill}
 use Rattle.pt_plain.proofs.Walking.{some_is}
+use Rattle.pt_filled.specs.Accesses.{reads}
 use Rattle.pt_filled.specs.Contents.{AllStay}
 use Rattle.pt_filled.specs.Fills.{Fills}
 use Rattle.pt_filled.specs.Told.{TellsFs}
@@ -43,6 +44,7 @@ use Rattle.pt_filled.proofs.Hosting.{Full, Keeps, Steps, Thread, contents_at}
 use Rattle.pt_filled.proofs.Parts.{At, IsRefused, Leaves, comes_at, idles_calm, keeps_on, leaves_keeps, leaves_read}
 use Rattle.pt_filled.proofs.Parts.{refused_from, walk_begin, walk_bytes, walk_placed, walk_read, walk_stat}
 use Rattle.pt_filled.proofs.Threading.{Comes, Makes}
+use Rattle.pt_filled.proofs.Using.{was_readable}
 
 still_ask : (fd : Fd) (told : ActReply) → IsStill (Calls (call.Stat fd)) told
 still_ask fd (Host told) = tt
@@ -256,11 +258,14 @@ module _ (plan : Plan) (who : Context) (j : Thread) (w : Full) (last : Answer) (
       answered d e fd bytes f m kept k =
           let seen = was_read j d e fd offset size bytes f.object m.2 f.open_on in
           tells asked _ k.0 (
-            f.object,
-            f.held,
             (
-              same_value bytes _ seen ∙ ap (λ (c : ObjectContents). take size (drop offset c.bytes))
-                  (same_at w d fd f.object f.calm m.2.made.0.sound f.open_on),
-              stays (left d e f.calm.keeps kept k),
+              f.object,
+              f.held,
+              (
+                same_value bytes _ seen ∙ ap (λ (c : ObjectContents). take size (drop offset c.bytes))
+                    (same_at w d fd f.object f.calm m.2.made.0.sound f.open_on),
+                stays (left d e f.calm.keeps kept k),
+              ),
             ),
+            ap reads f.lends ∙ was_readable j d e fd (value.Bytes bytes) offset size m.2,
           )

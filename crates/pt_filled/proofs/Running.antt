@@ -1,12 +1,15 @@
 -- Proof. Jobs that run whole over the tree host, one after another, are a run of the plain file system with contents.
 use Rattle.std.proofs.Common.{◌≡◌, ℕ, suc, List, [], ◌∷◌, ◌++◌, Option, Some, None, refl, sym, ap, subst, map}
+use Rattle.std.proofs.Common.{true, ◌∙◌, is_some}
 use Rattle.std.proofs.Common.{append_assoc, append-nil}
 use Rattle.pt_host.specs.Call.{Call}
 use Rattle.pt_host.specs.Words.{Each}
 use Rattle.pt_host.specs.declared.ids.Errno.{Errno}
 use Rattle.pt_host.specs.declared.reply.HostReply.{HostReply}
 use Rattle.pt_host.specs.declared.seat.HostSeat.{HostSeat}
+use Rattle.pt_tables.specs.Rows.{IsHandleRow}
 use Rattle.pt_tables.specs.Tables.{Tables, empty_tables}
+use Rattle.pt_tables.specs.declared.row.HandleRow.{HandleRow}
 use Rattle.pt_iface.specs.declared.answer.Answer.{Answer}
 use Rattle.pt_frame.specs.Deed.{Deed, Calls, Changes, Step, LacksMemory}
 use Rattle.pt_frame.specs.Grammar.{Belongs}
@@ -38,6 +41,7 @@ use Rattle.pt_plain.proofs.Coming.{Law}
 use Rattle.pt_plain.proofs.Editing.{served_edit}
 use Rattle.pt_plain.proofs.Running.{law_at, start_shows, ends_as, told_by}
 use Rattle.pt_plain.proofs.Showing.{Shows}
+use Rattle.pt_filled.specs.Accesses.{AccessesStay}
 use Rattle.pt_filled.specs.Contents.{FilledTree}
 use Rattle.pt_filled.specs.Filled.{IsFilled}
 use Rattle.pt_filled.specs.Fills.{FillsAsked}
@@ -46,6 +50,7 @@ use Rattle.pt_filled.specs.Whole.{IsWhole}
 use Rattle.pt_filled.proofs.Asking.{fills_request}
 use Rattle.pt_filled.proofs.Editing.{fills_edit}
 use Rattle.pt_filled.proofs.Filling.{filled}
+use Rattle.pt_filled.proofs.Handling.{IsBelow, IsLater, lent_over, lent_row, row_for}
 use Rattle.pt_filled.proofs.Hosting.{Full, Thread, Steps, world_of}
 use Rattle.pt_filled.proofs.Parts.{world_walks}
 use Rattle.pt_filled.proofs.Threading.{Walks}
@@ -181,6 +186,14 @@ IsServedSo plan seat asked state w last w' =
     (after : PlainTree) × ServesAsked plan asked state last after
     × FillsAsked plan seat asked (filled state w) last (filled after w') × Shows (world_of w') after
 
+-- a handle that is held on both sides of a job may be used as it was
+accesses_stay : (w w' : Full) (state after : PlainTree) → Shows (world_of w) state → Shows (world_of w') after →
+    IsLater w w' → AccessesStay (filled state w) (filled after w')
+accesses_stay w w' state after s s' l handle before behind =
+    let x = row_for w.past.objects handle w.tables.handles (sym (ap is_some (s.handles handle)) ∙ before) in
+    let y = row_for w'.past.objects handle w'.tables.handles (sym (ap is_some (s'.handles handle)) ∙ behind) in
+    l.lent handle x.0 y.0 x.1 y.1
+
 -- the job as one of its steps
 abbrev thread_of : Plan → ℕ → PlainJob → Asked → Thread
 thread_of plan number job asked =
@@ -232,14 +245,15 @@ record Served (plan : Plan) (number : ℕ) (jobs : List PlainJob) (w : Full) (st
   ends : to.state ≡ host
   left : to.tables ≡ tables
   shown : Shows (world_of to) after
+  below : IsBelow to
 
 all_served : (plan : Plan) (limit bound number : ℕ) (front : List Turn) (jobs : List PlainJob) (start : World) (w :
     Full)
     (state : PlainTree) (host : State) (tables : Tables) → IsNew limit start →
     AreDisciplined bound (front ++ turns_from number jobs) → Runs start front (world_of w) →
-    Each (IsWhole plan) jobs → Shows (world_of w) state →
+    Each (IsWhole plan) jobs → Shows (world_of w) state → IsBelow w →
     RunsWhole jobs w.state w.tables host tables → Served plan number jobs w state host tables
-all_served plan limit bound number front [] start w state host tables s a r e sh k = record {
+all_served plan limit bound number front [] start w state host tables s a r e sh b k = record {
   after = state;
   to = w;
   serves = refl;
@@ -247,8 +261,9 @@ all_served plan limit bound number front [] start w state host tables s a r e sh
   ends = sym k.0;
   left = sym k.1;
   shown = sh;
+  below = b;
 }
-all_served plan limit bound number front (job ∷ jobs) start w state host tables s a r e sh k =
+all_served plan limit bound number front (job ∷ jobs) start w state host tables s a r e sh b k =
     let own = map (turn_by number) job.steps in
     let rest = turns_from (suc number) jobs in
     let j : Thread = thread_of plan number job job.asked in
@@ -261,17 +276,33 @@ all_served plan limit bound number front (job ∷ jobs) start w state host table
     let one = served_job plan number job v walk.to state e.0 sh
     (law_at limit bound front (own ++ rest) start (world_of w) s a r)
     (law_at limit bound (front ++ own) rest start (world_of walk.to) s a' r') walk.walks in
+    let later = lent_over j v walk.to _ job.steps b e.0.answered.ends.2 walk.walks in
     let more = all_served plan limit bound (suc number) (front ++ own) jobs start walk.to one.0 host tables s a' r' e.1
-    one.3 (subst (λ (x : State). RunsWhole jobs x walk.to.tables host tables) (sym walk.state)
+    one.3 later.below (subst (λ (x : State). RunsWhole jobs x walk.to.tables host tables) (sym walk.state)
     (subst (λ (x : Tables). RunsWhole jobs k.0 x host tables) (sym walk.left) k.4)) in record {
       after = more.after;
       to = more.to;
-      serves = (filled one.0 walk.to, one.1, one.2, more.serves);
+      serves = (
+        filled one.0 walk.to,
+        one.1,
+        one.2,
+        accesses_stay v walk.to state one.0 sh one.3 later,
+        more.serves,
+      );
       runs = runs_append own rest (world_of w) (world_of walk.to) (world_of more.to) runs more.runs;
       ends = more.ends;
       left = more.left;
       shown = more.shown;
+      below = more.below;
     }
+
+-- each live handle's descriptor was opened for what the plain file system says
+abbrev AreLent : State → Tables → FilledTree → Type 0
+AreLent host tables state = (row : HandleRow) → IsHandleRow tables row → row.live ≡ true →
+    state.accesses row.handle ≡ ((contents_of host).descriptions row.fd.0).access
+
+lent_rows : (w : Full) (state : PlainTree) → Law (world_of w) → AreLent w.state w.tables (filled state w)
+lent_rows w state l row r live = lent_row w row r live l
 
 no_seat : HostSeat
 no_seat = record {
@@ -304,7 +335,7 @@ filled_run plan limit bound jobs start end tables a e k =
     let starts : IsNew limit (start_world limit start) = record { tables = refl; past = refl; story = refl } in
     let all = all_served plan limit bound 0 [] jobs (start_world limit start) begin (plain_start (tree_of start)) end
     tables
-    starts a refl e (start_shows limit (start_world limit start) starts) k in
+    starts a refl e (start_shows limit (start_world limit start) starts) (λ handle it e. absurd (cc)) k in
     let a' = subst (AreDisciplined bound) (sym (append-nil (turns_from 0 jobs))) a in (
       filled all.after all.to,
       all.serves,
@@ -317,5 +348,9 @@ filled_run plan limit bound jobs start end tables a e k =
             (law_at limit bound (turns_from 0 jobs) [] (start_world limit start) (world_of all.to) starts a' all.runs)
             all.shown;
         contents = ap (λ (s : State). (contents_of s).objects) all.ends;
+        accesses = subst (λ (p : State × Tables). AreLent p.0 p.1 (filled all.after all.to))
+            (λ i. (all.ends i, all.left i))
+            (lent_rows all.to all.after (law_at limit bound (turns_from 0 jobs) [] (start_world limit start) (world_of all.to)
+            starts a' all.runs));
       },
     )

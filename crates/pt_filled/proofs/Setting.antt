@@ -1,12 +1,14 @@
 -- Proof. `setattr`: the attributes one after another.
 use Rattle.std.specs.Prelude.{if◌then◌else◌}
-use Rattle.std.proofs.Common.{◌≡◌, ◌≢◌, ◌<◌, ℕ, List, Bool, true, false, Option, Some, None, refl, sym, ap}
+use Rattle.std.proofs.Common.{◌≡◌, ◌≢◌, ℕ, List, Bool, true, false, Option, Some, None, refl, sym, ap}
 use Rattle.std.proofs.Common.{subst, ◌∙◌, slice_get, ◌%◌}
 use Rattle.pt_host.specs.Contents.{ObjectContents}
 use Rattle.pt_host.specs.Tree.{Tree, Object, IsOpenOn}
 use Rattle.pt_host.specs.Flags.{includes, o_path}
 use Rattle.pt_host.specs.Errno.{ebadf, eperm}
 use Rattle.pt_host.specs.LawfulTree.{TreeChanges}
+use Rattle.pt_host.specs.Call.{Call}
+use Rattle.pt_host.specs.Sorts.{EndsFd, sort_of}
 use Rattle.pt_host.specs.declared.ids.Fd.{Fd}
 use Rattle.pt_host.specs.declared.reply.HostValue.{HostValue}
 use Rattle.pt_host.specs.declared.flags.OpenFlags.{OpenFlags}
@@ -43,11 +45,15 @@ use Rattle.pt_plain.proofs.Stilling.{IsStill}
 use Rattle.pt_plain.proofs.Walking.{Quiet, quiet_none, quiet_on}
 use Rattle.pt_filled.specs.Contents.{IsSame, is_file_kind, keeps_set_id, with_changed, uncapped, uncapped_if, owned_as}
 use Rattle.pt_filled.specs.Contents.{refilled}
+use Rattle.pt_filled.specs.Accesses.{writes}
+use Rattle.pt_filled.proofs.Descriptors.{KeepsFds, access_in, fds_call, fds_none, fds_on}
 use Rattle.pt_filled.proofs.Hosting.{Full, Keeps, Thread, contents_at, world_of, Alters, Bared, alters_on}
 use Rattle.pt_filled.proofs.Hosting.{alters_then, objects_at}
-use Rattle.pt_filled.proofs.Parts.{At, Calm, IsRefused, comes_at, refused_from, bared_calm, calm_on, unbare, walk_do}
+use Rattle.pt_filled.proofs.Parts.{At, Calm, IsRefused, comes_at, refused_from, bared_calm, calm_on, walk_do}
 use Rattle.pt_filled.proofs.Parts.{walk_reopen, walk_unless, calm_goes, quiet_makes, refused_with, walk_file}
+use Rattle.pt_filled.proofs.Scopes.{unbare}
 use Rattle.pt_filled.proofs.Threading.{Makes, comes_law}
+use Rattle.pt_filled.proofs.Using.{was_resizable}
 use Rattle.pt_filled.proofs.Writing.{keeps_by, walk_without}
 use Rattle.pt_filled.proofs.Clearing.{alters_idle, Cleared, idle_at, walk_clear, within_at}
 use Rattle.pt_filled.proofs.Effects.{was_moded, was_owned, was_sized, was_timed}
@@ -82,14 +88,21 @@ keeps_idle w x object a = record {
       (a.same other l);
 }
 
+fds_made : (j : Thread) (x y : Full) (asked : Call) (told : HostValue) →
+    Makes j x (Calls asked) (Host (host.Ok told)) y → ((fd : Fd) → sort_of asked ≡ EndsFd fd → ⊥) →
+    KeepsFds x.state y.state
+fds_made j x y asked told m none = fds_call x.state x.seat asked (host.Ok told) y.state y.seat m.2.made.0 none
+
 -- from one world to a later one, in which what was open is so, and contents are these
 pub record Reaches (w x y : Full) (are : ℕ → ObjectContents) : Type 0 where
   pub tree : (world_of y).tree ≡ (world_of x).tree
   pub quiet : Quiet (world_of x) (world_of y)
   pub alters : Alters w y are
+  pub fds : KeepsFds x.state y.state
 
 reaches_none : (w x : Full) (are : ℕ → ObjectContents) → Alters w x are → Reaches w x x are
-reaches_none w x are a = record { tree = refl; quiet = quiet_none (world_of x); alters = a }
+reaches_none w x are a =
+    record { tree = refl; quiet = quiet_none (world_of x); alters = a; fds = fds_none x.state x.state refl }
 
 abbrev pub moded_if : Bool → ℕ → ObjectContents → ObjectContents
 moded_if b mode was = if b then record was { mode = mode % 4096 } else was
@@ -112,6 +125,7 @@ walk_mode true j fd through mode next w x are target last w' n o a c out goes =
             mtime = q.mtime;
             ctime = q.ctime;
           }) e) a (was_moded j x y fd through mode told target m.2 o);
+      fds = fds_made j x y (call.ChMod fd through mode) told m (λ fd e. cc);
     }) cy)
 
 abbrev pub owned_if : Bool → Option ℕ → Option ℕ → ObjectContents → ObjectContents
@@ -145,6 +159,7 @@ walk_owner true j name fd (Some uid) (Some gid) next w x are object last w' n o 
             mtime = q.mtime;
             ctime = q.ctime;
           }) e) u.alters (was_owned j y z fd uid gid told object m.2 oy);
+      fds = fds_on x.state y.state z.state u.fds (fds_made j y z (call.ChOwn fd uid gid) told m (λ fd e. cc));
     }) cz))
 walk_owner true j name fd (Some uid) None next w x are object last w' n o a c out behind goes =
     out (refused_with j x eperm last w' (comes_at c))
@@ -163,11 +178,11 @@ pub walk_size : {G : Type 0} (b : Bool) (plan : Plan) (kill : Bool) (j : Thread)
     ((y : Full) → Alters w y (with_changed target (uncapped_if b name) are) → IsRefused y last w' → G) →
     ((y : Full) → Reaches w x y (with_changed target (sized_if b (keeps_set_id plan j.seat kill)
     (is_file_kind (slice_get (objects_at w) target)) size) (with_changed target (uncapped_if b name) are)) →
-    At j next y last w' → G) → G
+    (b ≡ true → writes (access_in x.state fd) ≡ true) → At j next y last w' → G) → G
 walk_size false plan kill j name fd size next w x are target last w' n lacks o a c out behind goes =
     let idle = alters_idle w x are target a in
     goes x (reaches_none w x (with_changed target (λ was. was) (with_changed target (λ was. was) are))
-    (alters_idle w x (with_changed target (λ was. was) are) target idle)) c
+    (alters_idle w x (with_changed target (λ was. was) are) target idle)) (λ e. absurd (cc)) c
 walk_size true plan kill j name fd size next w x are target last w' n lacks o a c out behind goes =
     walk_without j (drops_fsetid plan j.seat kill) clears x last w' n c out (λ d bd cd.
     let od = subst (λ (t : Tree). IsOpenOn t fd target) (sym (ap (λ (v : World). v.tree) bd.world)) o in
@@ -175,7 +190,7 @@ walk_size true plan kill j name fd size next w x are target last w' n lacks o a 
     (λ r. out (refused_from x d last w' bd.keeps r)) (λ v u cv.
     walk_do j (call.Truncate fd size) (Bares next) v last w' n (λ told e. still_size fd size told) cv
     (λ r. behind v u.alters r) (λ told e m ce.
-    unbare ce (λ y by' cy. goes y (reached d v e y told bd u m by') cy))))
+    unbare ce (λ y by' cy. goes y (reached d v e y told bd u m by') (λ e'. may d v e told bd u m) cy))))
     (comes_law j (without_fsetid (drops_fsetid plan j.seat kill) clears) x last w' (comes_at c))
   where
     sizes : RequestTree
@@ -186,6 +201,11 @@ walk_size true plan kill j name fd size next w x are target last w' n lacks o a 
 
     keeps : Bool
     keeps = keeps_set_id plan j.seat kill
+
+    may : (d v e : Full) (told : HostValue) → Bared j x d → Cleared w d v target name are →
+        Makes j v (Calls (call.Truncate fd size)) (Host (host.Ok told)) e → writes (access_in x.state fd) ≡ true
+    may d v e told bd u m =
+        ap writes (sym (fds_on x.state d.state v.state bd.fds u.fds fd o.0 o.1).1) ∙ was_resizable j v e fd told size m.2
 
     reached : (d v e y : Full) (told : HostValue) → Bared j x d → Cleared w d v target name are →
         Makes j v (Calls (call.Truncate fd size)) (Host (host.Ok told)) e → Bared j e y →
@@ -215,6 +235,8 @@ walk_size true plan kill j name fd size next w x are target last w' n lacks o a 
               (quiet_on (world_of v) (world_of e) (world_of y)
               (quiet_makes j v e (Calls (call.Truncate fd size)) _ m tt tt) (bared_calm j e y by').quiet));
           alters = alters_then w e y _ whole by'.keeps;
+          fds = fds_on x.state v.state y.state (fds_on x.state d.state v.state bd.fds u.fds)
+              (fds_on v.state e.state y.state (fds_made j v e (call.Truncate fd size) told m (λ fd e. cc)) by'.fds);
         }
 
 pub walk_times : {G : Type 0} (b : Bool) (j : Thread) (fd : Fd) (through : Bool) (atime mtime : TimeSet)
@@ -232,6 +254,7 @@ walk_times true j fd through atime mtime next w x are target last w' n o a c out
       quiet = quiet_makes j x y (Calls (call.SetTimes fd through atime mtime)) _ m tt tt;
       alters = alters_then w x y are a (keeps_idle x y target (was_timed j x y fd through atime mtime told target m.2
           o));
+      fds = fds_made j x y (call.SetTimes fd through atime mtime) told m (λ fd e. cc);
     }) cy)
 
 -- ---- what is opened for a size
@@ -272,7 +295,7 @@ walk_file_set {G} handle valid j row next w x object last w' n o q c out goes = 
         q.keeps r))
         (λ new y m cy. goes new y (calm_on w x y q (calm_goes j x y (Calls (call.Reopen fd (without_nofollow
         setting_flags)))
-        _ m tt (reopen_untouches fd new) tt)) (opened_anew j x y fd new object (without_nofollow setting_flags) m o) cy)
+        _ m tt (reopen_untouches fd new) tt (λ fd e. cc))) (opened_anew j x y fd new object (without_nofollow setting_flags) m o) cy)
 
     go : (anew : Bool) → At j (if anew then (if can_open row.mode then open_form row.form setting_flags next
         else Gives (answer.Refused ebadf)) else file_of row.form next) x last w' → G

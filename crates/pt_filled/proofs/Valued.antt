@@ -143,7 +143,7 @@ walk_xattr_file {G} plan session j number row next w d last w' state s n f c out
         let o = subst (λ (form : RowForm). IsOpenOn (world_of e).tree (fd_of form) f.object) same f.open_on in
         goes (file_by false new) h (record {
           calm = calm_on w e h f.calm (calm_goes j e h (Calls (call.Reopen fd (without_nofollow flags))) _ m l.0 l.1
-              tt);
+              tt (λ fd e. cc));
           object = f.object;
           stands = f.stands;
           open_on = opened_anew j e h fd new f.object (without_nofollow flags) m o;

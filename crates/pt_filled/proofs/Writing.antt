@@ -43,10 +43,12 @@ use Rattle.pt_rules.specs.Sound.{IsSound}
 use Rattle.pt_plain.specs.Plain.{PlainTree}
 use Rattle.pt_plain.proofs.Stilling.{IsStill}
 use Rattle.pt_plain.proofs.Coming.{Law}
+use Rattle.pt_filled.specs.Accesses.{writes}
 use Rattle.pt_filled.specs.Fills.{Fills}
 use Rattle.pt_filled.specs.Contents.{IsSame, is_file, is_file_kind, keeps_set_id, lengthened, overwritten, start_of}
 use Rattle.pt_filled.specs.Contents.{uncapped, with_changed, Becomes as BecomesThere}
 use Rattle.pt_filled.proofs.Clearing.{alters_twice, walk_clear, within_at}
+use Rattle.pt_filled.proofs.Descriptors.{KeepsFds, fds_on}
 use Rattle.pt_filled.proofs.Effects.{rowed, row_there, size_is, bytes_with, file_is, objects_still, ok_has}
 use Rattle.pt_filled.proofs.Effects.{same_parts, was_written, written_so}
 use Rattle.pt_filled.proofs.Filling.{Between, filled, IsFilledBy, refused_fills, become, file_there, open_within}
@@ -54,9 +56,11 @@ use Rattle.pt_filled.proofs.Finding.{Held, walk_held}
 use Rattle.pt_filled.proofs.Hosting.{Full, Keeps, Steps, Thread, contents_at, world_of, Alters, Bared, Respects}
 use Rattle.pt_filled.proofs.Hosting.{alters_on, alters_then, bared_none, objects_at}
 use Rattle.pt_filled.proofs.Parts.{At, Calm, IsRefused, comes_at, idles_calm, keeps_on, refused_from, walk_begin}
-use Rattle.pt_filled.proofs.Parts.{walk_count, walk_placed, bared_calm, unbare, walk_do, walk_scope}
+use Rattle.pt_filled.proofs.Parts.{walk_count, walk_placed, bared_calm, walk_do}
+use Rattle.pt_filled.proofs.Scopes.{unbare, walk_scope}
 use Rattle.pt_filled.proofs.Threading.{Comes, Makes, comes_law}
 use Rattle.pt_filled.proofs.Tables.{alters_row}
+use Rattle.pt_filled.proofs.Using.{was_lengthenable, was_writable}
 
 pub walk_without : {G : Type 0} (j : Thread) (drops : Bool) (next : RequestTree) (w : Full) (last : Answer) (w' :
     Full) →
@@ -201,7 +205,8 @@ module _ (plan : Plan) (who : Context) (agreed : Negotiated) (j : Thread) (w : F
       (λ r. out (refused_from w e last w' kept r)) (λ y u k.
       walk_count j (makes fd) _ y last w' n (still_write fd offset bytes append) (write_counts fd offset bytes append) k
       (left d y fd f u.alters) (λ count h m k.
-      unbare k (λ i v k. answered d y h i fd count f (open_still e y fd f.object u.tree o) u.alters m
+      unbare k (λ i v k. answered d y h i fd count f (open_still e y fd f.object u.tree o) u.alters
+      (fds_on d.state e.state y.state x.fds u.fds) m
       (bared_calm j h i v) (comes_at k)))))
       (comes_law j (drops fd) d last w' (comes_at k)))))
     where
@@ -234,10 +239,10 @@ module _ (plan : Plan) (who : Context) (agreed : Negotiated) (j : Thread) (w : F
 
       answered : (d y h i : Full) (fd : Fd) (count : ℕ) (f : Held w d state handle inode fd) →
           IsOpenOn (world_of y).tree fd f.object →
-          Alters w y (with_changed f.object (uncapped plan.capability) (contents_at w)) →
+          Alters w y (with_changed f.object (uncapped plan.capability) (contents_at w)) → KeepsFds d.state y.state →
           Makes j y (Calls (makes fd)) (Host (host.Ok (value.Count count))) h → Calm h i →
           Comes j (Gives (answer.Wrote count)) i last w' → IsFilledBy plan j.seat who asked state w last after w'
-      answered d y h i fd count f o a m q k =
+      answered d y h i fd count f o a fds m q k =
           let by_seat = subst (λ (r : Role). y.seat ≡ seat_lacking (r.lacks (makes fd)) j.seat) role m.2.as_asked in
           let keeps = keeps_set_id plan j.seat kill in
           let wrote = was_written j y h fd offset bytes append (value.Count count) f.object keeps m.2 o
@@ -255,14 +260,18 @@ module _ (plan : Plan) (who : Context) (agreed : Negotiated) (j : Thread) (w : F
           (alters_then w h w' (with_changed f.object (so file) cleared) on
           (keeps_on h i w' q.keeps (idles_calm j i w' k.1).keeps)) in
           subst (λ (x : Answer). Fills plan j.seat who asked (filled state w) x (filled after w')) (sym k.0) (
-            f.object,
-            f.held,
             (
-              same_count count (length bytes) wrote.0,
-              subst (λ (change : ObjectContents → ObjectContents). BecomesThere (filled state w) f.object change
-                  (filled after w')) (λ i was. overwritten keeps file (same_start append offset plan.capability was i)
-                  bytes (uncapped plan.capability was)) (become w w' state after _ g.shows all),
+              f.object,
+              f.held,
+              (
+                same_count count (length bytes) wrote.0,
+                subst (λ (change : ObjectContents → ObjectContents). BecomesThere (filled state w) f.object change
+                    (filled after w')) (λ i was. overwritten keeps file (same_start append offset plan.capability was
+                    i) bytes (uncapped plan.capability was)) (become w w' state after _ g.shows all),
+              ),
             ),
+            ap writes (f.lends ∙ sym (fds fd f.open_on.0 f.open_on.1).1)
+                ∙ was_writable j y h fd (value.Count count) offset bytes append m.2,
           )
 
   pub fills_fallocate : (inode handle mode offset size : ℕ) →
@@ -305,5 +314,7 @@ module _ (plan : Plan) (who : Context) (agreed : Negotiated) (j : Thread) (w : F
           m.2.made.0.sound f.open_on
           (respects_length (is_file (filled state w) f.object) mode (offset + size)) there (idles_calm j e w'
           k.1).keeps in
-          subst (λ (x : Answer). Fills plan j.seat who asked (filled state w) x (filled after w')) (sym k.0)
-          (f.object, f.held, become w w' state after _ g.shows all)
+          subst (λ (x : Answer). Fills plan j.seat who asked (filled state w) x (filled after w')) (sym k.0) (
+            (f.object, f.held, become w w' state after _ g.shows all),
+            ap writes f.lends ∙ was_lengthenable j d e fd told mode offset size m.2,
+          )

@@ -27,6 +27,8 @@ pub record FilledTree : Type 0 where
   pub plain : PlainTree
   -- beside each object in the list
   pub contents : ℕ → ObjectContents
+  -- beside each handle, what it may be used for: 0 to read, 1 to write, 2 both
+  pub accesses : ℕ → ℕ
 
 -- times aside
 abbrev pub IsSame : ObjectContents → ObjectContents → Type 0

@@ -28,6 +28,7 @@ use Rattle.pt_law.specs.Under.{Identity}
 use Rattle.pt_node.specs.Paths.{parts}
 use Rattle.pt_rules.specs.ContentCalls.{sought}
 use Rattle.pt_plain.specs.Plain.{PlainTree, OfNumber, OfHandle}
+use Rattle.pt_filled.specs.Accesses.{MayRead, MayWrite, MayWriteBy, asked_for, opened_for}
 use Rattle.pt_filled.specs.Contents.{FilledTree, AllBecome, AllStay, with_changed, Becomes, is_file, keeps_set_id}
 use Rattle.pt_filled.specs.Contents.{valued, uncapped, uncapped_if, overwritten, lengthened, start_of, truncates}
 use Rattle.pt_filled.specs.Contents.{emptied, sgid_taken, mode_set, sets_owner, owner_set, size_set}
@@ -128,6 +129,11 @@ Sets plan seat inode handle valid attr state stage after =
     OfNumber state.plain inode (λ object. OfTarget state.plain inode object handle (λ target.
     AllBecome state (set_to plan seat valid attr state object target stage) after))
 
+-- a size is set by a handle that may be used to write
+abbrev pub MaySize : FilledTree → Option ℕ → SetattrValid → Stage → Type 0
+MaySize state handle valid Sized = sets_size valid ≡ true → MayWriteBy state handle
+MaySize state handle valid stage = Unit {0}
+
 -- ---- an extended attribute is set
 
 -- what comes before it: the object's capabilities go, and the set-group-id bit
@@ -173,7 +179,8 @@ FillsRefused plan seat who (request.Write inode handle offset bytes delayed kill
     AllStay state after
     ⊎ OfHandle state.plain handle inode (λ object. Becomes state object (uncapped plan.capability) after)
 FillsRefused plan seat who (request.SetAttr inode handle valid attr) state after =
-    AllStay state after ⊎ ((stage : Stage) × Sets plan seat inode handle valid attr state stage after)
+    AllStay state after
+    ⊎ ((stage : Stage) × Sets plan seat inode handle valid attr state stage after × MaySize state handle valid stage)
 FillsRefused plan seat who (request.SetXattr inode name value flags extra) state after =
     AllStay state after ⊎ OfNumber state.plain inode (λ object. OfName plan state name (λ held.
     (kills : Bool) × (kills ≡ true → kills_sgid state.plain.agreed extra held ≡ true)
@@ -202,32 +209,35 @@ Fills plan seat who (request.Symlink target parent name ext) state (answer.Entry
 Fills plan seat who (request.Create parent name mode kill flags umask ext) state (answer.Created entry handle options)
     after =
     (MakesAsked plan seat who (request.Create parent name mode kill flags umask ext) state after
-    × NamesEntry plan state parent name entry after)
-    ⊎ (OpensNamed plan seat parent name kill flags state after × NamesEntry plan state parent name entry state)
+    × NamesEntry plan state parent name entry after × (after.accesses handle ≡ asked_for flags))
+    ⊎ (OpensNamed plan seat parent name kill flags state after × NamesEntry plan state parent name entry state
+    × (after.accesses handle ≡ opened_for state.plain.agreed flags))
 Fills plan seat who (request.Open inode kill flags) state (answer.Opened handle options) after =
     OfNumber state.plain inode (λ object. IsOpened plan seat kill flags state object after)
+    × (after.accesses handle ≡ opened_for state.plain.agreed flags)
 Fills plan seat who (request.OpenDir inode flags) state (answer.Opened handle options) after =
     OfNumber state.plain inode (λ object. IsOpenedDir plan flags state object after)
+    × (after.accesses handle ≡ opened_for state.plain.agreed flags)
 -- by handles
 Fills plan seat who (request.Read inode handle size offset) state (answer.Read bytes) after =
     OfHandle state.plain handle inode (λ object.
-    (bytes ≡ take size (drop offset (state.contents object).bytes)) × AllStay state after)
+    (bytes ≡ take size (drop offset (state.contents object).bytes)) × AllStay state after) × MayRead state handle
 Fills plan seat who (request.Write inode handle offset bytes delayed kill flags) state (answer.Wrote count) after =
     OfHandle state.plain handle inode (λ object. (count ≡ length bytes)
     × Becomes state object (λ was. overwritten (keeps_set_id plan seat kill) (is_file state object)
-    (start_of (appends delayed flags) offset was) bytes (uncapped plan.capability was)) after)
+    (start_of (appends delayed flags) offset was) bytes (uncapped plan.capability was)) after) × MayWrite state handle
 Fills plan seat who (request.ReadDir inode handle size offset) state (answer.Listing entries) after =
     (((size ≡ 0) × (entries ≡ []))
     ⊎ OfHandle state.plain handle inode (λ dir. TellsListing state dir offset entries)) × AllStay state after
 Fills plan seat who (request.Fallocate inode handle mode offset size) state answer.Done after =
     OfHandle state.plain handle inode (λ object.
-    Becomes state object (lengthened (is_file state object) mode (offset + size)) after)
+    Becomes state object (lengthened (is_file state object) mode (offset + size)) after) × MayWrite state handle
 Fills plan seat who (request.CopyFileRange inode handle offset inode2 handle2 offset2 size flags) state
     (answer.Wrote count) after =
     OfHandle state.plain handle inode (λ object. OfHandle state.plain handle2 inode2 (λ target.
     (count ≡ length (take size (drop offset (state.contents object).bytes)))
     × Becomes state target (overwritten (includes seat.eff_caps.0 fsetid.0) (is_file state target) offset2
-    (take size (drop offset (state.contents object).bytes))) after))
+    (take size (drop offset (state.contents object).bytes))) after)) × MayRead state handle × MayWrite state handle2
 -- where the place stands is free, so what is sought from there is
 Fills plan seat who (request.Lseek inode handle offset whence) state (answer.Offset place) after =
     OfHandle state.plain handle inode (λ object. (position : ℕ)
@@ -244,7 +254,7 @@ Fills plan seat who (request.Access inode mask) state answer.Done after =
     OfNumber state.plain inode (λ object. (attr : Attr) × TellsAttr plan state object attr
     × (is_granted who mask attr ≡ true)) × AllStay state after
 Fills plan seat who (request.SetAttr inode handle what attr) state (answer.Attr told valid) after =
-    Sets plan seat inode handle what attr state Sized after
+    Sets plan seat inode handle what attr state Sized after × MaySize state handle what Sized
     × OfNumber state.plain inode (λ object. TellsAttr plan after object told) × (valid ≡ plan.config.attr_timeout)
 -- extended attributes
 Fills plan seat who (request.SetXattr inode name value flags extra) state answer.Done after =

@@ -1,5 +1,6 @@
 -- Inner. The files of definitions, lowest first.
 pub mod Contents
+pub mod Accesses
 pub mod Told
 pub mod New
 pub mod Fills
