@@ -12,6 +12,7 @@ ghost use Rattle.pt_rules.specs.EditPaths.{
   seen_site,
 };
 ghost use Rattle.pt_rules.specs.Finding.{IsPlaced};
+ghost use Rattle.pt_rules.specs.Sound.{IsShort};
 
 use pt_host::Errno;
 use pt_node::names::NAME_MAX;
@@ -90,6 +91,7 @@ fn judged_from<'a, 'b>(
 pub fn judged<'a, 'b>(nodes: &'a [Node], path: &'b [u8]) -> Result<Place<'a, 'b>, Errno>
     ensures judged { seen_judged result ≡ judged nodes.now path.now }
     ensures placed { IfOk result (λ place. IsPlaced nodes.now (seen_site place)) }
+    ensures named { IfOk result (λ place. IsShort place.1.now) }
 {
     match from_root(nodes, path) {
         None => Err(Errno::ENOENT),

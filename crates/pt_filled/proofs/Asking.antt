@@ -38,6 +38,7 @@ use Rattle.pt_filled.proofs.Creating.{fills_create}
 use Rattle.pt_filled.proofs.Entries.{fills_link, fills_lookup}
 use Rattle.pt_filled.proofs.Filling.{Between, filled, IsFilledBy, objects_of, stay}
 use Rattle.pt_filled.proofs.Hosting.{Full, Thread}
+use Rattle.pt_filled.proofs.Directories.{fills_readdir}
 use Rattle.pt_filled.proofs.Listing.{fills_listxattr}
 use Rattle.pt_filled.proofs.Made.{fills_mkdir, fills_mknod, fills_symlink}
 use Rattle.pt_filled.proofs.Naming.{fills_rename, fills_rmdir, fills_unlink}
@@ -117,7 +118,7 @@ module _ (plan : Plan) (who : Context) (agreed : Negotiated) (j : Thread) (w : F
       refused_from w b last w' q.keeps (refused_with j b (errno_of 38) last w' (comes_at k)))
 
   -- in the session that goes on, as it was agreed on
-  fills_in_session : (asked : Request) → IsFilledRequest plan asked → j.role ≡ role_in plan j.seat who agreed asked →
+  fills_in_session : (asked : Request) → IsFilledRequest asked → j.role ≡ role_in plan j.seat who agreed asked →
       agreed ≡ w.tables.negotiated → Serves plan asked state last after →
       At j (begin (in_session plan j.seat who asked)) w last w' → IsFilledBy plan j.seat who asked state w last after w'
   fills_in_session (request.Init capable) f r a v c =
@@ -186,13 +187,14 @@ module _ (plan : Plan) (who : Context) (agreed : Negotiated) (j : Thread) (w : F
       fills_lseek plan who j w last w' state after g n inode handle offset whence c
   fills_in_session (request.CopyFileRange inode handle offset inode2 handle2 offset2 size flags) f r a v c =
       fills_copy plan who agreed j w last w' state after g n inode handle offset inode2 handle2 offset2 size flags r c
+  fills_in_session (request.ReadDir inode handle size offset) f r a v c =
+      fills_readdir plan who j w last w' state after g n inode handle size offset f c
   fills_in_session (request.Other opcode) f r a v c = fills_unserved plan who j w last w' state after g opcode v c
-  fills_in_session asked f r a v c = absurd f
 
 -- a job of a request
 pub fills_request : (plan : Plan) (who : Context) (asked : Request) (j : Thread) (w : Full) (steps : List Step)
     (last : Answer) (w' : Full) (state after : PlainTree) → Between w w' state after → last ≢ answer.NoMemory →
-    IsFilledRequest plan asked → j.role ≡ role_in plan j.seat who (agreed_in steps) asked →
+    IsFilledRequest asked → j.role ≡ role_in plan j.seat who (agreed_in steps) asked →
     Serves plan asked state last after →
     Belongs (grammar_of_tree j.seat (tree_of plan j.seat who asked)) steps (finish.Answer last) → Walks j w steps w' →
     IsFilledBy plan j.seat who asked state w last after w'

@@ -41,4 +41,5 @@ pub mod Attributes
 pub mod Editing
 pub mod Removing
 pub mod Listing
+pub mod Directories
 pub mod ExampleRefused

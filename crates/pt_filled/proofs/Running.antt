@@ -205,7 +205,7 @@ served_job : (plan : Plan) (number : ℕ) (job : PlainJob) (w w' : Full) (state 
     IsServedSo plan job.seat job.asked state w job.last w'
 served_job plan number job w w' state is s l l' k = go job.asked is.filled is.answered.belongs k
   where
-    go : (asked : Asked) → IsFilled plan asked →
+    go : (asked : Asked) → IsFilled asked →
         Belongs (grammar_for plan job.seat asked) job.steps (finish.Answer job.last) →
         Walks (thread_of plan number job asked) w job.steps w' → IsServedSo plan job.seat asked state w job.last w'
     go (Requests who asked) f b k =

@@ -1,13 +1,13 @@
--- Believed. The jobs of which contents are said: not yet those that this file leaves out.
+-- Believed. The jobs of which contents are said: all, with a listing's size as wide as in the guest's message.
+use Rattle.std.specs.Prelude.{◌<◌, ◌^◌}
 use Rattle.pt_iface.specs.declared.request.Request.{Request}
 use Rattle.pt_iface.specs.declared.request.Request.TheVariants as request
-use Rattle.pt_req.specs.declared.plan.Plan.{Plan}
 use Rattle.pt_job.specs.Pattern.{Asked, Requests, Edits}
 
-abbrev pub IsFilledRequest : Plan → Request → Type 0
-IsFilledRequest plan (request.ReadDir inode handle size offset) = ⊥
-IsFilledRequest plan asked = Unit {0}
+abbrev pub IsFilledRequest : Request → Type 0
+IsFilledRequest (request.ReadDir inode handle size offset) = size < 2 ^ 32
+IsFilledRequest asked = Unit {0}
 
-abbrev pub IsFilled : Plan → Asked → Type 0
-IsFilled plan (Requests who asked) = IsFilledRequest plan asked
-IsFilled plan (Edits edit) = Unit {0}
+abbrev pub IsFilled : Asked → Type 0
+IsFilled (Requests who asked) = IsFilledRequest asked
+IsFilled (Edits edit) = Unit {0}

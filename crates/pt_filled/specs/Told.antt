@@ -7,6 +7,7 @@ use Rattle.std.specs.Str.{bytes_eq}
 use Rattle.pt_host.specs.Tree.{Tree, Object, directory_kind}
 use Rattle.pt_host.specs.declared.stat.FsStat.{FsStat}
 use Rattle.pt_host.specs.declared.stat.Stat.{Stat}
+use Rattle.pt_handles.specs.Dirents.{before_nul}
 use Rattle.pt_maps.specs.MappedNames.{client_name, nul_ended}
 use Rattle.pt_maps.specs.declared.xattr_map.AppliedRule.{AppliedRule}
 use Rattle.pt_maps.specs.declared.xattr_rule.XattrRule.{XattrRule}
@@ -140,9 +141,10 @@ TellsNames plan state object size told =
     × (told ≡ (if size == 0 then xattrs.Count (length (names_ended names))
     else xattrs.Names (names_told plan state.plain.agreed (names_ended names))))
 
--- an entry of a directory tells what its name leads to, and where it goes on
+-- An entry of a directory tells what its name leads to, and where it goes on. A name is told as far as a record can
+-- tell it, to its first NUL; names that come of requests, edits and lines of a script have none.
 pub record IsEntryOf (tree : Tree) (dir place : ℕ) (name : List ℕ) (entry : DirEntry) : Type 0 where
-  pub same_name : entry.name ≡ name
+  pub same_name : entry.name ≡ before_nul name
   pub object : ℕ
   pub leads : tree.names dir name ≡ Some object
   pub what : Object

@@ -13,4 +13,4 @@ pub record IsWhole (plan : Plan) (job : PlainJob) : Type 0 where
   pub answered : IsAnswered plan job
   pub seated : IsSeated (role_for plan job.seat (agreed_in job.steps) job.asked) job.seat job.steps
   pub loses_none : (past_of job.steps).lost ≡ None
-  pub filled : IsFilled plan job.asked
+  pub filled : IsFilled job.asked

@@ -168,7 +168,7 @@ module _ (plan : Plan) (limit : ℕ) (jobs : List Job) (opened : State) (tables 
     (begins : tables ≡ empty_tables limit)
     (runs : TraceRuns Does trace opened (map job_seat jobs) tables end seats tables')
     (seated : SeatedEach plan jobs trace) (ends : EndsWhole plan jobs [] trace answers)
-    (found : FoundMemory trace answers) (filled : Each (λ job. IsFilled plan (asked_of job)) jobs) where
+    (found : FoundMemory trace answers) (filled : Each (λ job. IsFilled (asked_of job)) jobs) where
   ran : Ran Does plan limit jobs opened tables trace answers end tables'
   ran = record {
     seats = map job_seat jobs;
@@ -189,15 +189,15 @@ module _ (plan : Plan) (limit : ℕ) (jobs : List Job) (opened : State) (tables 
       (hosts_told Does (λ (s : State). s.faults) does_promised j (turns_of trace) opened tables end tables'
       (host_runs Does trace opened (map job_seat jobs) tables end seats tables' runs))
 
-  filled_at : (all : List Job) → Each (λ job. IsFilled plan (asked_of job)) all → (i : ℕ) (job : Job) →
-      slice_get all i ≡ Some job → IsFilled plan (asked_of job)
+  filled_at : (all : List Job) → Each (λ job. IsFilled (asked_of job)) all → (i : ℕ) (job : Job) →
+      slice_get all i ≡ Some job → IsFilled (asked_of job)
   filled_at [] f i job at = absurd (cc)
   filled_at (first ∷ all) f zero job at =
       subst (λ (o : Option Job). OfSome o) at f.0
     where
       OfSome : Option Job → Type 0
       OfSome None = ⊥
-      OfSome (Some it) = IsFilled plan (asked_of it)
+      OfSome (Some it) = IsFilled (asked_of it)
   filled_at (first ∷ all) f (suc i) job at = filled_at all f.1 i job at
 
   abbrev plain : List PlainJob
@@ -256,6 +256,7 @@ module _ (plan : Plan) (limit : ℕ) (jobs : List Job) (opened : State) (tables 
           same_tables = f.2.same_tables;
           plain = f.2.plain;
           contents = f.2.contents;
+          accesses = f.2.accesses;
         },
       )
 

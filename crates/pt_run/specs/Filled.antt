@@ -1,8 +1,10 @@
 -- Believed. What the jobs of a script without a schedule are over the tree host: a plain file system with contents.
-use Rattle.std.specs.Prelude.{◌≡◌, List, [], map}
+use Rattle.std.specs.Prelude.{◌≡◌, List, [], map, true}
 use Rattle.pt_host.specs.Words.{Each}
 use Rattle.pt_rules.specs.State.{State, contents_of, tree_of}
+use Rattle.pt_tables.specs.Rows.{IsHandleRow}
 use Rattle.pt_tables.specs.Tables.{Tables}
+use Rattle.pt_tables.specs.declared.row.HandleRow.{HandleRow}
 use Rattle.pt_iface.specs.declared.answer.Answer.{Answer}
 use Rattle.pt_req.specs.declared.plan.Plan.{Plan}
 use Rattle.pt_law.specs.World.{World, Runs as WorldRuns}
@@ -22,7 +24,7 @@ abbrev pub seated_as : Job → SeatedAsked
 seated_as job = record { seat = job_start job; asked = asked_of job }
 
 -- At the end it has what host and tables have: names and objects, numbers with their counts, handles, what was agreed
--- on, and contents.
+-- on, contents, and what each handle's descriptor was opened for.
 pub record EndsWith
     (opened : State)
     (tables : Tables)
@@ -37,9 +39,11 @@ pub record EndsWith
   pub same_tables : end.tables ≡ tables'
   pub plain : EndsAs end after.plain
   pub contents : after.contents ≡ (contents_of host).objects
+  pub accesses : (row : HandleRow) → IsHandleRow tables' row → row.live ≡ true →
+      after.accesses row.handle ≡ ((contents_of host).descriptions row.fd.0).access
 
 -- Where the schedule is empty, so that each job ran whole before the next began, no seat was lost and no memory was
--- wanting, and contents are said of each job: a plain file system with contents serves what was asked, one request
+-- wanting, and each listing's size is one of 32 bits: a plain file system with contents serves what was asked, one request
 -- after another, and answers so, and at the end it has what host and tables have.
 abbrev pub ServesContents :
     (plan : Plan) →
@@ -52,6 +56,6 @@ abbrev pub ServesContents :
     (tables' : Tables) →
     Type 0
 ServesContents plan jobs opened tables trace answers host tables' =
-    EndsWhole plan jobs [] trace answers → FoundMemory trace answers → Each (λ job. IsFilled plan (asked_of job)) jobs →
+    EndsWhole plan jobs [] trace answers → FoundMemory trace answers → Each (λ job. IsFilled (asked_of job)) jobs →
     (after : FilledTree) × ServesFilled plan (map seated_as jobs) answers (filled_start opened) after
     × EndsWith opened tables trace host tables' after

@@ -102,6 +102,7 @@ module _ (state : State) (holds : Counts) (tables : ℕ → List Slot) (kept : I
         few = kept.sound.few;
         made = kept.sound.made;
         named = kept.sound.named;
+        short = kept.sound.short;
         opened = kept.sound.opened;
         apart = kept.sound.apart;
       })

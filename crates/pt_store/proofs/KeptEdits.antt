@@ -16,7 +16,7 @@ use Rattle.pt_node.specs.Node.{name_at}
 use Rattle.pt_node.specs.Opening.{after_opening}
 use Rattle.pt_node.specs.Reading.{after_reading}
 use Rattle.pt_node.specs.Slots.{closed, open_at}
-use Rattle.pt_rules.specs.Sound.{IsSound}
+use Rattle.pt_rules.specs.Sound.{IsShort, IsSound}
 use Rattle.pt_rules.specs.State.{State, time_of}
 use Rattle.pt_store.specs.StoreState.{device_at, device_in, device_where, node_where, number_at, number_in}
 use Rattle.pt_store.specs.StoreState.{number_where}
@@ -263,7 +263,7 @@ module _ (state : State) (holds : Counts) (tables : ℕ → List Slot) (from to 
 
 pub kept_moved : (state : State) (holds : Counts) (tables : ℕ → List Slot) (from to : ℕ × List ℕ) (object : ℕ)
     (target : Option ℕ) → IsKept state holds tables →
-    name_at state.nodes from.0 from.1 ≡ Some object → is_directory_at state.nodes to.0 ≡ true →
+    name_at state.nodes from.0 from.1 ≡ Some object → is_directory_at state.nodes to.0 ≡ true → IsShort to.1 →
     name_at state.nodes to.0 to.1 ≡ target →
     IsKept (with_moved state from to object target)
     (record {
@@ -272,12 +272,12 @@ pub kept_moved : (state : State) (holds : Counts) (tables : ℕ → List Slot) (
       directories = with_moved_in state.nodes from.0 to.0 object target holds.directories;
     })
     (given_up_where (device_where state.nodes target) (number_where state.nodes target) target holds.holds tables)
-kept_moved state holds tables from to object None kept there into at_target =
+kept_moved state holds tables from to object None kept there into good at_target =
     let alike = alike_gone state holds tables from to object None kept there into at_target in
     let named = named_gone state holds tables from to object None kept there into at_target in
     let long = length state.nodes in
     record {
-      sound = sound_moved state from to object None kept.sound there into;
+      sound = sound_moved state from to object None kept.sound good there into;
       held = counts_as (held_by state) (held_by (with_moved state from to object None)) long
           (length (with_moved state from to object None).nodes) holds.holds kept.held alike.long
           (λ o within. let names = named o in omega (arith, names));
@@ -290,7 +290,7 @@ kept_moved state holds tables from to object None kept there into at_target =
           (λ o node is of some. let names = named o in omega (arith, names, some))
           (λ o node is of some. let names = named o in omega (arith, names, some));
     }
-kept_moved state holds tables from to object (Some target) kept there into at_target =
+kept_moved state holds tables from to object (Some target) kept there into good at_target =
     let node = lives_there state to.0 to.1 target kept.sound at_target in
     let alike = alike_gone state holds tables from to object (Some target) kept there into at_target in
     let named = named_gone state holds tables from to object (Some target) kept there into at_target in
@@ -311,7 +311,7 @@ kept_moved state holds tables from to object (Some target) kept there into at_ta
     })
     (given_up (device_in at_object) (number_in at_object) target holds.holds tables)) (sym node.1)
     (kept_released state after holds tables target node.0 kept
-    (sound_moved state from to object (Some target) kept.sound there into)
+    (sound_moved state from to object (Some target) kept.sound good there into)
     alike node.1 (released target holds.names) directories linked
     (λ o. let names = named o in omega (arith, names)))
 

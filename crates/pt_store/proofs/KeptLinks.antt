@@ -22,7 +22,7 @@ use Rattle.pt_rules.specs.Holds.{HasHold}
 use Rattle.pt_rules.specs.NameCalls.{with_exchanged, with_linked}
 use Rattle.pt_node.specs.Node.{is_directory, name_at, names_in}
 use Rattle.pt_node.specs.Slots.{closed, closed_where, file_of, is_free, least_free, open_at, put_at, taken_back}
-use Rattle.pt_rules.specs.Sound.{IsSound}
+use Rattle.pt_rules.specs.Sound.{IsShort, IsSound}
 use Rattle.pt_rules.specs.State.{State, time_of}
 use Rattle.pt_node.specs.declared.node.Node.{Node}
 use Rattle.pt_node.specs.declared.slots.OpenFile.{OpenFile}
@@ -62,7 +62,7 @@ some_node (node ∷ nodes) dir into = omega arith
 
 module _ (state : State) (holds : Counts) (tables : ℕ → List Slot) (dir : ℕ) (name : List ℕ) (object : ℕ)
     (kept : IsKept state holds tables) (into : is_directory_at state.nodes dir ≡ true)
-    (free : name_at state.nodes dir name ≡ None) (lives : HasHold state object) where
+    (free : name_at state.nodes dir name ≡ None) (good : IsShort name) (lives : HasHold state object) where
   abbrev joined : List Node
   joined = (with_linked state dir name object).nodes
 
@@ -106,7 +106,7 @@ module _ (state : State) (holds : Counts) (tables : ℕ → List Slot) (dir : �
       }) tables
   kept_linked =
       kept_more state (with_linked state dir name object) holds tables object kept
-      (sound_linked state dir name object kept.sound into lives
+      (sound_linked state dir name object kept.sound good into lives
       (lives_within state object kept.sound (some_node state.nodes dir into) lives)) alike_joined
       (once_more object holds.names) (raised dir (counted state.nodes object) holds.directories) linked_joined
       (lives_held state object lives)
@@ -194,7 +194,8 @@ pub kept_open_made : (state : State) (holds : Counts) (tables : ℕ →
     (into : is_directory_at state.nodes dir ≡ true) (free : name_at state.nodes dir name
     ≡ None) (empty : names_in node.content ≡ []) (bare : node.xattrs ≡ [])
     (serial : node.serial
-    ≡ length state.nodes + 1) (small : node.permissions < 4096) (at_dir : slice_get state.nodes dir ≡ Some parent)
+    ≡ length state.nodes + 1) (small : node.permissions < 4096) (good : IsShort name)
+    (at_dir : slice_get state.nodes dir ≡ Some parent)
     (number : node.ids.ino
     ≡ least_free (tables node.ids.dev)) (few : length (with_made state dir name node).nodes
     < 2 ^ 63) (seat : HostSeat) (flags : OpenFlags) → is_directory node ≡ false →
@@ -204,13 +205,13 @@ pub kept_open_made : (state : State) (holds : Counts) (tables : ℕ →
       names = holds.names ++ 1 ∷ [];
       directories = holds.directories ++ 0 ∷ [];
     }) (given node.ids.dev (having (length state.nodes)) tables)
-kept_open_made state holds tables kept dir name node parent into free empty bare serial small at_dir number few seat flags
+kept_open_made state holds tables kept dir name node parent into free empty bare serial small good at_dir number few seat flags
     file =
-    let made = kept_made state holds tables kept dir name node parent into free empty bare serial small at_dir number few
+    let made = kept_made state holds tables kept dir name node parent into free empty bare serial small good at_dir number few
     (holds.directories ++ 0 ∷ [])
-    (nested_file state holds tables kept dir name node parent into free empty bare serial small at_dir number few file) in
-    let there = new_there state holds tables kept dir name node parent into free empty bare serial small at_dir number few in
-    let once = new_held state holds tables kept dir name node parent into free empty bare serial small at_dir number few in
+    (nested_file state holds tables kept dir name node parent into free empty bare serial small good at_dir number few file) in
+    let there = new_there state holds tables kept dir name node parent into free empty bare serial small good at_dir number few in
+    let once = new_held state holds tables kept dir name node parent into free empty bare serial small good at_dir number few in
     let some : 0 < held_by (with_made state dir name node) (length state.nodes) = omega (arith, once) in
     let lives = held_lives (with_made state dir name node) (length state.nodes) made.sound some in
     let last = ap (slice_get (holds.holds ++ 1 ∷ [])) (sym kept.held.long) ∙ get-push_here holds.holds 1 in

@@ -15,7 +15,7 @@ use Rattle.pt_rules.specs.Living.{IsLeastFree, held_by}
 use Rattle.pt_rules.specs.Holds.{HasHold}
 use Rattle.pt_node.specs.Node.{is_directory, name_at, names_in}
 use Rattle.pt_node.specs.Slots.{closed, file_of, least_free, open_at, put_at}
-use Rattle.pt_rules.specs.Sound.{IsSound}
+use Rattle.pt_rules.specs.Sound.{IsShort, IsSound}
 use Rattle.pt_rules.specs.State.{State, time_of}
 use Rattle.pt_node.specs.declared.node.Node.{Node}
 use Rattle.pt_node.specs.declared.slots.OpenFile.{OpenFile}
@@ -40,14 +40,15 @@ module _ (state : State) (holds : Counts) (tables : ℕ → List Slot) (kept : I
     (into : is_directory_at state.nodes dir ≡ true) (free : name_at state.nodes dir name
     ≡ None) (empty : names_in node.content ≡ []) (bare : node.xattrs ≡ [])
     (serial : node.serial
-    ≡ length state.nodes + 1) (small : node.permissions < 4096) (at_dir : slice_get state.nodes dir ≡ Some parent)
+    ≡ length state.nodes + 1) (small : node.permissions < 4096) (good : IsShort name)
+    (at_dir : slice_get state.nodes dir ≡ Some parent)
     (number : node.ids.ino
     ≡ least_free (tables node.ids.dev)) (few : length (with_made state dir name node).nodes < 2 ^ 63) where
   least : IsLeastFree state node.ids.dev node.ids.ino
   least = subst (IsLeastFree state node.ids.dev) (sym number) (next_least state holds tables kept node.ids.dev)
 
   sound : IsSound (with_made state dir name node)
-  sound = sound_made state dir name node kept.sound into empty bare serial small least few
+  sound = sound_made state dir name node kept.sound into empty bare serial small least good few
 
   long_made : length (with_made state dir name node).nodes ≡ length state.nodes + 1
   long_made = length_made state dir name node kept.sound into empty bare serial small least

@@ -1,14 +1,18 @@
 -- The place that a path leads to takes the name.
 use Rattle.std.proofs.Common.{◌≡◌, ◌&&◌, ◌∷◌, [], ◌==◌, ℕ, Bool, true, false, List, Option, Some, None}
-use Rattle.std.proofs.Common.{option_and_then, slice_get, ap, ◌∙◌, cond, refl, subst}
+use Rattle.std.proofs.Common.{option_and_then, slice_get, ap, ◌∙◌, cond, refl, subst, not, length}
 use Rattle.std.specs.Option.{is_none}
-use Rattle.std.proofs.lemmas.Bool.{and_parts}
+use Rattle.std.specs.Prelude.{nat_le}
+use Rattle.std.specs.Str.{bytes_eq}
+use Rattle.std.proofs.lemmas.Bool.{and_parts, leb-true}
 use Rattle.std.proofs.lemmas.Option.{same_Some}
+use Rattle.pt_node.specs.Limits.{name_max}
 use Rattle.pt_node.specs.Paths.{parts}
 use Rattle.pt_node.specs.Entries.{is_directory_at, is_directory_where}
 use Rattle.pt_node.specs.Names.{found}
 use Rattle.pt_node.specs.Node.{is_directory, name_at, names_in}
-use Rattle.pt_node.specs.NewPlace.{is_good_name, takes_name, new_place, place_in, place_of}
+use Rattle.pt_node.specs.NewPlace.{has_nul, is_dots, is_good_name, takes_name, new_place, place_in, place_of}
+use Rattle.pt_rules.specs.Sound.{IsShort}
 use Rattle.pt_rules.specs.Laws.WellFormed.{and_then_some}
 use Rattle.pt_node.specs.declared.node.Node.{Node}
 
@@ -44,6 +48,42 @@ pub place_takes : (nodes : List Node) (path : List ℕ) (place : ℕ × List ℕ
 place_takes nodes [] place is = cc
 place_takes nodes (first ∷ path) place is =
     in_takes nodes 0 (parts path) place (past_good (first == 47) (place_in nodes 0 (parts path)) place is)
+
+-- ---- and the name is short
+
+good_is : (name : List ℕ) → is_good_name name ≡ true → IsShort name
+good_is name is =
+    let last = and_parts (not (bytes_eq name []) && not (is_dots name) && not (has_nul name))
+    (nat_le (length name) name_max) is in
+    leb-true (length name) name_max last.1
+
+good_in : (good takes : Bool) (dir : ℕ) (name : List ℕ) (place : ℕ × List ℕ) →
+    cond (good && takes) (Some (dir, name)) None ≡ Some place → good ≡ true
+good_in true takes dir name place is = refl
+good_in false takes dir name place is = cc
+
+new_good : (nodes : List Node) (dir : ℕ) (name : List ℕ) (more : List (List ℕ)) (place : ℕ × List ℕ) →
+    new_place nodes dir name more ≡ Some place → IsShort place.1
+new_good nodes dir name [] place is =
+    let both = in_place (is_good_name name) (takes_name name (slice_get nodes dir)) dir name place is in
+    let good = good_in (is_good_name name) (takes_name name (slice_get nodes dir)) dir name place is in
+    subst (λ (at : ℕ × List ℕ). IsShort at.1) both.1 (good_is name good)
+new_good nodes dir name (next ∷ more) place is =
+    let led = past_good (is_good_name name)
+    (option_and_then (λ child. new_place nodes child next more) (name_at nodes dir name)) place is in
+    let child = and_then_some (λ child. new_place nodes child next more) (name_at nodes dir name) place led in
+    new_good nodes child.0 next more place child.2
+
+in_good : (nodes : List Node) (dir : ℕ) (names : List (List ℕ)) (place : ℕ × List ℕ) →
+    place_in nodes dir names ≡ Some place → IsShort place.1
+in_good nodes dir [] place is = cc
+in_good nodes dir (name ∷ more) place is = new_good nodes dir name more place is
+
+pub place_good : (nodes : List Node) (path : List ℕ) (place : ℕ × List ℕ) → place_of nodes path ≡ Some place →
+    IsShort place.1
+place_good nodes [] place is = cc
+place_good nodes (first ∷ path) place is =
+    in_good nodes 0 (parts path) place (past_good (first == 47) (place_in nodes 0 (parts path)) place is)
 
 -- a directory takes a name that is free in it
 takes_both : (nodes : List Node) (dir : ℕ) (name : List ℕ) (at : Option Node) → slice_get nodes dir ≡ at →

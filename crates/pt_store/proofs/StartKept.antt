@@ -21,6 +21,7 @@ use Rattle.pt_node.specs.Node.{is_directory, name_at, names_in}
 use Rattle.pt_node.specs.Slots.{is_free, least_free, put_at}
 use Rattle.pt_node.specs.Attributes.{with_value}
 use Rattle.pt_rules.specs.Building.{next_number, with_xattr}
+use Rattle.pt_rules.specs.Sound.{IsShort}
 use Rattle.pt_rules.specs.State.{State, time_of}
 use Rattle.pt_store.specs.StoreState.{IsDense, IsStarted}
 use Rattle.pt_node.specs.declared.node.Node.{Node}
@@ -92,21 +93,21 @@ module _ (state : State) (holds : Counts) (tables : ℕ → List Slot) (started 
   }
 
   pub started_linked : (dir : ℕ) (name : List ℕ) (object : ℕ) → is_directory_at state.nodes dir ≡ true →
-      name_at state.nodes dir name ≡ None → HasHold state object →
+      name_at state.nodes dir name ≡ None → IsShort name → HasHold state object →
       IsStarted (with_linked state dir name object)
       (record {
         holds = once_more object holds.holds;
         names = once_more object holds.names;
         directories = raised dir (counted state.nodes object) holds.directories;
       }) tables
-  started_linked dir name object into free lives =
+  started_linked dir name object into free good lives =
       started_alike (with_linked state dir name object)
       (record {
         holds = once_more object holds.holds;
         names = once_more object holds.names;
         directories = raised dir (counted state.nodes object) holds.directories;
       })
-      (kept_linked state holds tables dir name object started.kept into free lives) started.begun refl
+      (kept_linked state holds tables dir name object started.kept into free good lives) started.begun refl
       (alike_linked (time_of state) dir name object state.nodes)
 
   pub started_xattr : (name bytes : List ℕ) (object : ℕ) → IsStarted (with_xattr state name bytes object) holds tables
@@ -202,7 +203,7 @@ module _ (state : State) (holds : Counts) (tables : ℕ → List Slot) (started 
 
   pub started_made : (parent : Node) → is_directory_at state.nodes dir ≡ true → name_at state.nodes dir name ≡ None →
       names_in node.content ≡ [] → node.xattrs ≡ [] →
-      node.serial ≡ length state.nodes + 1 → node.permissions < 4096 → slice_get state.nodes dir ≡ Some parent →
+      node.serial ≡ length state.nodes + 1 → node.permissions < 4096 → IsShort name → slice_get state.nodes dir ≡ Some parent →
       node.ids.ino ≡ least_free (tables node.ids.dev) → length (with_made state dir name node).nodes < 2 ^ 63 →
       has_device node.ids.dev state.mounts ≡ true →
       (value : ℕ) → value ≡ slice_index holds.directories dir + weight (is_directory node) →
@@ -212,10 +213,10 @@ module _ (state : State) (holds : Counts) (tables : ℕ → List Slot) (started 
         names = holds.names ++ 1 ∷ [];
         directories = slice_set (holds.directories ++ 0 ∷ []) dir value;
       }) (given node.ids.dev (having (length state.nodes)) tables)
-  started_made parent into free empty bare serial small at_dir number few on_device value is = record {
-    kept = kept_made state holds tables started.kept dir name node parent into free empty bare serial small at_dir number few
+  started_made parent into free empty bare serial small good at_dir number few on_device value is = record {
+    kept = kept_made state holds tables started.kept dir name node parent into free empty bare serial small good at_dir number few
         (slice_set (holds.directories ++ 0 ∷ []) dir value)
-        (nested_made state holds tables started.kept dir name node parent into free empty bare serial small at_dir number few
+        (nested_made state holds tables started.kept dir name node parent into free empty bare serial small good at_dir number few
         value is);
     begun = started.begun;
     dense = dense_made;

@@ -110,6 +110,7 @@ module _ (state : State) (holds : Counts) (tables : ℕ → List Slot) (parent i
       few = started.kept.sound.few;
       made = started.kept.sound.made;
       named = started.kept.sound.named;
+      short = started.kept.sound.short;
       opened = started.kept.sound.opened;
       apart = started.kept.sound.apart;
     })

@@ -1,5 +1,5 @@
 -- A store with the root alone.
-use Rattle.std.proofs.Common.{◌≡◌, ◌≢◌, ◌<◌, ◌+◌, ◌||◌, inl, inr, ℕ, zero, suc, Bool, true, false, cond, List, []}
+use Rattle.std.proofs.Common.{◌≡◌, ◌≢◌, ◌<◌, ◌≤◌, ◌+◌, ◌||◌, inl, inr, ℕ, zero, suc, Bool, true, false, cond, List, []}
 use Rattle.std.proofs.Common.{◌∷◌, Some, slice_get, refl, ap, sym, ◌∙◌, subst, arith}
 use Rattle.std.proofs.lemmas.Bool.Decides.{eqb_tells}
 use Rattle.std.proofs.lemmas.Option.{same_Some}
@@ -37,9 +37,12 @@ module _ (id dev : ℕ) (path : List ℕ) (handles : Bool) where
   only_root zero node there = (refl, sym (same_Some root node there))
   only_root (suc place) node there = cc
 
+  none_at : (dir : ℕ) (name : List ℕ) (object : ℕ) → name_at state.nodes dir name ≡ Some object → ⊥
+  none_at zero name object there = cc
+  none_at (suc dir) name object there = cc
+
   none_named : (dir : ℕ) (name : List ℕ) (object : ℕ) → name_at state.nodes dir name ≡ Some object → object < 1
-  none_named zero name object there = cc
-  none_named (suc dir) name object there = cc
+  none_named dir name object there = absurd (none_at dir name object there)
 
   none_opened : (fd : ℕ) (file : OpenFile) → open_at no_files fd ≡ Some file → file.object < 1
   none_opened zero file there = cc
@@ -55,11 +58,13 @@ module _ (id dev : ℕ) (path : List ℕ) (handles : Bool) where
         let at = only_root place node there in
         record {
           serial = ap (λ (n : Node). n.serial) at.1 ∙ (let p = at.0 in let e : 1 ≡ place + 1 = omega arith in e);
+          numbered = subst (λ (n : Node). n.ids.ino ≤ place + 1) (sym at.1) (omega arith);
           permissions = subst (λ (n : Node). n.permissions < 4096) (sym at.1) (omega arith);
           ordered = subst (λ (n : Node). AreOrdered (names_in n.content)) (sym at.1) (no_names ℕ);
           attributed = subst (λ (n : Node). AreOrdered n.xattrs) (sym at.1) (no_names (List ℕ));
         };
     named = none_named;
+    short = λ dir name object there. absurd (none_at dir name object there);
     opened = none_opened;
     apart = λ object another node that there too lives lives_too same_dev same_ino. (only_root object node there).0
         ∙ sym (only_root another that too).0;

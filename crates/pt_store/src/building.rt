@@ -38,6 +38,7 @@ ghost use Rattle.pt_rules.specs.Building.{
   next_number,
   start_with,
 };
+ghost use Rattle.pt_rules.specs.Sound.{IsShort};
 
 use crate::plans::Plans;
 use crate::store::Store;
@@ -111,6 +112,7 @@ impl Store {
         requires starting { IsStarting self.old }
         requires into { is_directory_at self.old.nodes.items dir ≡ true }
         requires free { name_at self.old.nodes.items dir name.now ≡ None }
+        requires good { IsShort name.now }
         requires empty { names_in node.content ≡ [] }
         requires bare { node.xattrs ≡ [] }
         requires small { node.permissions < 4096 }

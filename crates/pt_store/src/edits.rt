@@ -29,6 +29,7 @@ ghost use Rattle.pt_rules.specs.Edits.{
   with_unlinked,
   write_at,
 };
+ghost use Rattle.pt_rules.specs.Sound.{IsShort};
 
 use crate::finding::node_at;
 use crate::store::{Store, device_at, number_at};
@@ -140,6 +141,7 @@ impl Store {
         requires kept { IsKeptBy self.old }
         requires leads { name_at self.old.nodes.items from.0 from.1.now ≡ Some object }
         requires into { is_directory_at self.old.nodes.items to.0 ≡ true }
+        requires good { IsShort to.1.now }
         requires target { name_at self.old.nodes.items to.0 to.1.now ≡ target }
         requires another { target ≢ Some object }
         ensures ok { OnOk result (state_of self.new
@@ -174,6 +176,7 @@ impl Store {
         requires kept { IsKeptBy self.old }
         requires leads { name_at self.old.nodes.items from.0 from.1.now ≡ Some object }
         requires into { is_directory_at self.old.nodes.items to.0 ≡ true }
+        requires good { IsShort to.1.now }
         requires target { name_at self.old.nodes.items to.0 to.1.now ≡ target }
         ensures answers { (node : Node) → slice_get self.old.nodes.items object ≡ Some node →
             AnswersAs
@@ -201,6 +204,7 @@ impl Store {
         requires kept { IsKeptBy self.old }
         requires out { is_some (slice_get self.old.nodes.items from.0) ≡ true }
         requires into { is_directory_at self.old.nodes.items to.0 ≡ true }
+        requires good { IsShort to.1.now }
         ensures answers { (dir : Node) (dir2 : Node) →
             slice_get self.old.nodes.items from.entry.0 ≡ Some dir →
             slice_get self.old.nodes.items to.entry.0 ≡ Some dir2 →
@@ -258,6 +262,7 @@ impl Store {
         requires kept { IsKeptBy self.old }
         requires into { is_directory_at self.old.nodes.items dir ≡ true }
         requires free { name_at self.old.nodes.items dir name.now ≡ None }
+        requires good { IsShort name.now }
         requires empty { names_in content ≡ [] }
         requires small { permissions < 4096 }
         ensures answers { (parent : Node) → slice_get self.old.nodes.items dir ≡ Some parent →

@@ -14,6 +14,7 @@ ghost use Rattle.pt_rules.specs.NameCalls.{
   unlink,
   with_linked,
 };
+ghost use Rattle.pt_rules.specs.Sound.{IsShort};
 
 use crate::finding::open_on;
 use crate::store::Store;
@@ -136,6 +137,7 @@ impl Store {
         requires kept { IsKeptBy self.old }
         requires into { is_directory_at self.old.nodes.items dir ≡ true }
         requires free { name_at self.old.nodes.items dir name.now ≡ None }
+        requires good { IsShort name.now }
         requires lives { HasHold (state_of self.old) object }
         ensures ok { OnOk result (state_of self.new ≡ with_linked (state_of self.old) dir name.now object) }
         ensures err { OnErr result (state_of self.new ≡ state_of self.old) }
@@ -174,6 +176,7 @@ impl Store {
             ≡ done (with_linked (state_of self.now) ends.1 name.now ends.0)) }
         ensures into { IfOk result (λ ends. is_directory_at self.now.nodes.items ends.1 ≡ true) }
         ensures free { IfOk result (λ ends. name_at self.now.nodes.items ends.1 name.now ≡ None) }
+        ensures good { IfOk result (λ ends. IsShort name.now) }
         ensures lives { IfOk result (λ ends. HasHold (state_of self.now) ends.0) }
         ensures err { IfErr result (λ errno. make_link (state_of self.now) seat.now from fd name.now
             ≡ refused (state_of self.now) errno) }

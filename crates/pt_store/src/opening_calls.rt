@@ -19,6 +19,7 @@ ghost use Rattle.pt_rules.specs.OpeningCalls.{
   tell_handle,
   tell_mounts,
 };
+ghost use Rattle.pt_rules.specs.Sound.{IsShort};
 
 use crate::finding::{node_at, open_on};
 use crate::store::{Store, begun_on};
@@ -72,6 +73,7 @@ impl Store {
         requires kept { IsKeptBy self.old }
         requires into { is_directory_at self.old.nodes.items dir ≡ true }
         requires free { name_at self.old.nodes.items dir name.now ≡ None }
+        requires good { IsShort name.now }
         requires small { permissions < 4096 }
         ensures answers { (parent : Node) → slice_get self.old.nodes.items dir ≡ Some parent →
             AnswersAs

@@ -7,6 +7,7 @@ ghost use Rattle.pt_node.specs.NewPlace.{seen_place};
 ghost use Rattle.pt_node.specs.Paths.{led_on};
 ghost use Rattle.pt_node.specs.declared.node.Node.{Node};
 ghost use Rattle.pt_rules.specs.NameCalls.{rename, rename_between, rename_to, with_exchanged};
+ghost use Rattle.pt_rules.specs.Sound.{IsShort};
 
 use crate::finding::{node_at, open_on};
 use crate::store::Store;
@@ -55,6 +56,7 @@ impl Store {
         requires kept { IsKeptBy self.old }
         requires leads { name_at self.old.nodes.items from.0 from.1.now ≡ Some object }
         requires into { is_directory_at self.old.nodes.items to.0 ≡ true }
+        requires good { IsShort to.1.now }
         requires target { name_at self.old.nodes.items to.0 to.1.now ≡ target }
         ensures answers { (node : Node) → slice_get self.old.nodes.items object ≡ Some node →
             AnswersAs
@@ -89,6 +91,7 @@ impl Store {
         requires kept { IsKeptBy self.old }
         requires out { is_some (slice_get self.old.nodes.items from.0) ≡ true }
         requires into { is_directory_at self.old.nodes.items to.0 ≡ true }
+        requires good { IsShort to.1.now }
         ensures answers { (dir : Node) (dir2 : Node) →
             slice_get self.old.nodes.items from.entry.0 ≡ Some dir →
             slice_get self.old.nodes.items to.entry.0 ≡ Some dir2 →

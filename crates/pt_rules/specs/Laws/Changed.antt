@@ -268,19 +268,19 @@ names-pushed nodes node none =
 -- what leads there after one was led elsewhere
 pub led_cases : (dir : ℕ) (name : List ℕ) (object : Option ℕ) (names : ℕ → List ℕ →
     Option ℕ) (d : ℕ) (q : List ℕ) (o : ℕ) →
-    led dir name object names d q ≡ Some o → (object ≡ Some o) ⊎ (names d q ≡ Some o)
+    led dir name object names d q ≡ Some o → ((object ≡ Some o) × (q ≡ name)) ⊎ (names d q ≡ Some o)
 unfolding set_at
 led_cases dir name object names d q o is = elim (eqb_tells d dir) [
-  | inl same ↦ in_dir (bytes_eq name q)
+  | inl same ↦ in_dir (bytes_eq name q) refl
       (sym (ap (λ b. cond b (update bytes_eq (names dir) name object) (names d) q) same.0)
       ∙ is) (ap (λ k. names k q) same.1)
   | inr apart ↦ inr (sym (ap (λ b. cond b (update bytes_eq (names dir) name object) (names d) q) apart.0) ∙ is)
 ]
   where
-    in_dir : (b : Bool) → cond b object (names dir q) ≡ Some o → names d q ≡ names dir q →
-        (object ≡ Some o) ⊎ (names d q ≡ Some o)
-    in_dir true there same = inl there
-    in_dir false there same = inr (same ∙ there)
+    in_dir : (b : Bool) → bytes_eq name q ≡ b → cond b object (names dir q) ≡ Some o → names d q ≡ names dir q →
+        ((object ≡ Some o) × (q ≡ name)) ⊎ (names d q ≡ Some o)
+    in_dir true e there same = inl (there, sym ((bytes_eq-Decides name q).0 e))
+    in_dir false e there same = inr (same ∙ there)
 
 -- a name that leads to the object does so after any name was led there
 pub led_still : (dir : ℕ) (name : List ℕ) (object : ℕ) (names : ℕ → List ℕ → Option ℕ) (d : ℕ) (q : List ℕ) →

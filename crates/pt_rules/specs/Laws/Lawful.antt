@@ -311,6 +311,7 @@ faulted_sound state sound = record {
   few = sound.few;
   made = sound.made;
   named = sound.named;
+  short = sound.short;
   opened = sound.opened;
   apart = sound.apart;
 }

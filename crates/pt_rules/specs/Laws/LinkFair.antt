@@ -22,7 +22,7 @@ use Rattle.pt_rules.specs.Laws.Cases.{by_checks, by_fd, by_name}
 use Rattle.pt_rules.specs.Laws.Changed.{objects-changed, same_tree}
 use Rattle.pt_rules.specs.Laws.EditShapes.{object_gained}
 use Rattle.pt_rules.specs.Laws.Fair.{IsFair, fair_refused}
-use Rattle.pt_rules.specs.Laws.NameFair.{asked_there, changed_other, keeps_others, there_at}
+use Rattle.pt_rules.specs.Laws.NameFair.{asked_named, asked_there, changed_other, keeps_others, there_at}
 use Rattle.pt_rules.specs.Laws.NamesLed.{names_linked, sound_linked, with_link}
 use Rattle.pt_rules.specs.Laws.Opens.{open_there}
 use Rattle.pt_rules.specs.Laws.Outcomes.{none_there, passes_first}
@@ -48,7 +48,7 @@ module _ (state : State) (seat : HostSeat) (from fd : Fd) (name : List ℕ) (sou
       let linked_on = open_there state from file source in
       let within = sound.opened from.0 file source in
       record {
-        sound = λ few. sound_linked state at.object name file.object sound into
+        sound = λ few. sound_linked state at.object name file.object sound (asked_named seat dir name asks) into
             (inr (inr (from.0, file, source, refl))) within;
         changes = (
           file.object,

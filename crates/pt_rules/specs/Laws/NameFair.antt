@@ -2,6 +2,7 @@
 use Rattle.std.proofs.Common.{◌≡◌, ◌≢◌, ◌<◌, ◌-◌, ◌%◌, ◌^◌, ◌==◌, ◌||◌, nat_lt, inl, inr, ℕ, Bool, true, false, not}
 use Rattle.std.proofs.Common.{cond, List, [], length, Option, Some, None, is_some, option_and_then, option_map}
 use Rattle.std.proofs.Common.{slice_get, refl, ap, sym, ◌∙◌, subst, arith}
+use Rattle.std.proofs.lemmas.Bool.{ltb-false}
 use Rattle.std.proofs.lemmas.Bool.Decides.{eqb_tells}
 use Rattle.std.proofs.lemmas.List.{length-map}
 use Rattle.std.proofs.lemmas.Nat.{and_le_l}
@@ -25,13 +26,16 @@ use Rattle.pt_rules.specs.Calls.{done, name_refusal, refused, there_in}
 use Rattle.pt_rules.specs.Edits.{made, with_made, with_unlinked}
 use Rattle.pt_node.specs.Entries.{changed_at, is_directory_at, is_directory_where, touched, with_entry}
 use Rattle.pt_rules.specs.Living.{AreLeastFree}
+use Rattle.pt_node.specs.Limits.{name_max}
 use Rattle.pt_node.specs.Names.{found}
+use Rattle.pt_node.specs.Permission.{may}
+use Rattle.pt_node.specs.declared.permission.Right.TheVariants.{Search}
 use Rattle.pt_rules.specs.NameCalls.{content_of_kind, kind_bits, make_checks, make_dir, make_in_dir, make_node}
 use Rattle.pt_rules.specs.NameCalls.{make_of_kind, make_symlink, masked, node_checks, remove_checks, remove_dir}
 use Rattle.pt_rules.specs.NameCalls.{special_kind, symlink_checks, take_checks, unlink}
 use Rattle.pt_node.specs.Node.{is_directory, name_at, names_in, object_of}
 use Rattle.pt_node.specs.Slots.{open_at}
-use Rattle.pt_rules.specs.Sound.{IsSound}
+use Rattle.pt_rules.specs.Sound.{IsShort, IsSound}
 use Rattle.pt_rules.specs.State.{State, contents_of, contents_where, time_of, tree_of}
 use Rattle.pt_node.specs.declared.node.Node.{Node}
 use Rattle.pt_node.specs.declared.node.Content.{Content}
@@ -81,6 +85,12 @@ is_asked seat dir name none = not_not (is_directory dir) (passes_first (not (is_
     not_not : (b : Bool) → not b ≡ false → b ≡ true
     not_not true is = refl
     not_not false is = cc
+
+pub asked_named : (seat : HostSeat) (dir : Node) (name : List ℕ) → name_refusal seat dir name ≡ None → IsShort name
+asked_named seat dir name none =
+    let within = passes_first (not (is_directory dir)) _ _ none in
+    let short = passes_first (nat_lt name_max (length name)) _ _ within.1 in
+    ltb-false name_max (length name) short.0
 
 pub asked_there : (state : State) (seat : HostSeat) (object : ℕ) (dir : Node) (name : List ℕ) →
     slice_get state.nodes object ≡ Some dir →
@@ -159,6 +169,7 @@ fair_new state numbers seat asked fd name permissions rdev content file dir soun
       bare = refl;
       serial = refl;
       small = small;
+      good = asked_named seat dir name asks;
       number = refl;
       leaves = refl;
     }) sound least is refl opens fits passes may

@@ -10,7 +10,7 @@ use Rattle.pt_rules.specs.Holds.{HasHold}
 use Rattle.pt_rules.specs.NameCalls.{exchanged, linked, with_exchanged, with_linked}
 use Rattle.pt_node.specs.Names.{found}
 use Rattle.pt_node.specs.Node.{holds_names, name_at, names_in}
-use Rattle.pt_rules.specs.Sound.{IsSound}
+use Rattle.pt_rules.specs.Sound.{IsShort, IsSound}
 use Rattle.pt_rules.specs.State.{State, time_of}
 use Rattle.pt_node.specs.declared.node.Content.{Content}
 use Rattle.pt_node.specs.declared.node.Content.TheVariants.{Directory}
@@ -54,24 +54,27 @@ module _ (now : Time) (dir : ℕ) (name : List ℕ) (object : ℕ) (nodes : List
       names-same object (restamped now) with_link (λ node is. refl)
       ∙ names-gained now dir name object nodes into
 
-pub named_linked : (state : State) (dir : ℕ) (name : List ℕ) (object : ℕ) → IsSound state →
+pub named_linked : (state : State) (dir : ℕ) (name : List ℕ) (object : ℕ) → IsSound state → IsShort name →
     is_directory_at state.nodes dir ≡ true → HasHold state object →
     object < length state.nodes → NamedBefore state (with_linked state dir name object).nodes
-named_linked state dir name object sound into lives within o (d, q, is) =
+named_linked state dir name object sound good into lives within o (d, q, is) =
     let names = names_linked (time_of state) dir name object state.nodes into in
     elim (led_cases dir name (Some object) (name_at state.nodes) d q o (sym (ap (λ at. at d q) names) ∙ is)) [
-      | inl same ↦ (let e = same_Some object o same in
-          (subst (HasHold state) e lives, subst (λ n. n < length state.nodes) e within))
+      | inl same ↦ (let e = same_Some object o same.0 in (
+        subst (HasHold state) e lives,
+        subst (λ n. n < length state.nodes) e within,
+        subst IsShort (sym same.1) good,
+      ))
       | inr was ↦ named_still state sound o (d, q, was)
     ]
 
-pub sound_linked : (state : State) (dir : ℕ) (name : List ℕ) (object : ℕ) → IsSound state →
+pub sound_linked : (state : State) (dir : ℕ) (name : List ℕ) (object : ℕ) → IsSound state → IsShort name →
     is_directory_at state.nodes dir ≡ true → HasHold state object →
     object < length state.nodes → IsSound (with_linked state dir name object)
-sound_linked state dir name object sound into lives within =
+sound_linked state dir name object sound good into lives within =
     sound_after state (linked (time_of state) dir name object state.nodes) state.slots sound
     (alike_linked (time_of state) dir name object state.nodes)
-    (named_linked state dir name object sound into lives within) (opened_still state sound)
+    (named_linked state dir name object sound good into lives within) (opened_still state sound)
 
 -- ---- two names exchanged
 
@@ -137,9 +140,11 @@ sound_exchanged state from to object other sound there too =
         let names = names_exchanged (time_of state) from to object other state.nodes there too in
         elim (led_cases from.0 from.1 (Some other) (led to.0 to.1 (Some object) (name_at state.nodes)) d q o
         (sym (ap (λ at. at d q) names) ∙ is)) [
-          | inl same ↦ named_still state sound o (to.0, to.1, too ∙ same)
+          | inl same ↦ (let was = named_still state sound o (to.0, to.1, too ∙ same.0) in
+              (was.0, was.1, subst IsShort (sym same.1) (sound.short from.0 from.1 object there)))
           | inr gained ↦ elim (led_cases to.0 to.1 (Some object) (name_at state.nodes) d q o gained) [
-            | inl same ↦ named_still state sound o (from.0, from.1, there ∙ same)
+            | inl same ↦ (let was = named_still state sound o (from.0, from.1, there ∙ same.0) in
+                (was.0, was.1, subst IsShort (sym same.1) (sound.short to.0 to.1 other too)))
             | inr was ↦ named_still state sound o (d, q, was)
           ]
         ]

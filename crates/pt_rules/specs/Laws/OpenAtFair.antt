@@ -40,7 +40,7 @@ use Rattle.pt_rules.specs.Laws.EditShapes.{names_grown}
 use Rattle.pt_rules.specs.Laws.EditSound.{sound_makes}
 use Rattle.pt_rules.specs.Laws.Fair.{IsFair, fair_refused, stays_same}
 use Rattle.pt_rules.specs.Laws.Finding.{find_name, found_name, name_lives, named_is, there_within}
-use Rattle.pt_rules.specs.Laws.NameFair.{asked_there, changed_other, small_masked, there_at}
+use Rattle.pt_rules.specs.Laws.NameFair.{asked_named, asked_there, changed_other, small_masked, there_at}
 use Rattle.pt_rules.specs.Laws.OpenFair.{fair_open_walked, fair_opening, free_fd, new_description, same_description}
 use Rattle.pt_rules.specs.Laws.Opens.{errnos_apart, least_free-closed, missing_name, open_there, same_open}
 use Rattle.pt_rules.specs.Laws.Opens.{tree-with_descriptor}
@@ -178,6 +178,7 @@ module _ (state : State) (numbers : ℕ → ℕ) (seat : HostSeat) (fd : Fd) (na
     bare = refl;
     serial = refl;
     small = small_masked seat mode;
+    good = asked_named seat parent name asks;
     number = refl;
     leaves = refl;
   }

@@ -1,7 +1,8 @@
 -- Proof. What an edit comes to: it is refused and changes nothing, or it is made and does as its like call.
 use Rattle.std.proofs.Common.{◌≡◌, ◌≢◌, ◌<◌, ◌+◌, ◌%◌, ◌⊎◌, inl, inr, ℕ, Bool, true, false, not, ◌||◌, cond, List, []}
-use Rattle.std.proofs.Common.{◌∷◌, length, Option, Some, None, Result, Ok, Err, is_some, ok_or, option_map, slice_get}
+use Rattle.std.proofs.Common.{◌∷◌, length, nat_lt, Option, Some, None, Result, Ok, Err, is_some, ok_or, option_map, slice_get}
 use Rattle.std.proofs.Common.{option_and_then, refl, ap, sym, ◌∙◌, ◌==◌, subst, arith}
+use Rattle.std.proofs.lemmas.Bool.{ltb-false}
 use Rattle.std.proofs.lemmas.Bool.Decides.{eqb_tells}
 use Rattle.std.proofs.lemmas.Option.{same_Some}
 use Rattle.pt_host.specs.Errno.{enoent, eexist}
@@ -9,6 +10,7 @@ use Rattle.pt_host.specs.declared.edit.Edit.{Edit}
 use Rattle.pt_host.specs.declared.edit.Edit.TheVariants as edit
 use Rattle.pt_host.specs.declared.ids.Errno.{Errno}
 use Rattle.pt_node.specs.Entries.{is_directory_at, is_directory_where}
+use Rattle.pt_node.specs.Limits.{name_max}
 use Rattle.pt_node.specs.Names.{found}
 use Rattle.pt_node.specs.Node.{is_directory, name_at, names_in, size_of}
 use Rattle.pt_node.specs.Opening.{first_refusal}
@@ -19,7 +21,7 @@ use Rattle.pt_rules.specs.EditPaths.{path_goes_through}
 use Rattle.pt_rules.specs.Edits.{at_name, at_place, edited, made, make_at, make_in, move_checks, new_checks}
 use Rattle.pt_rules.specs.Edits.{rename_judged, rename_onto, rename_placed, replace_checks, unlink_at, unlink_checks}
 use Rattle.pt_rules.specs.Edits.{with_made, with_moved, with_rewritten, with_unlinked, write_at, write_checks}
-use Rattle.pt_rules.specs.Sound.{IsSound}
+use Rattle.pt_rules.specs.Sound.{IsShort, IsSound}
 use Rattle.pt_rules.specs.State.{State}
 use Rattle.pt_rules.specs.Finding.{IsPlaced, IsThere}
 use Rattle.pt_rules.specs.Laws.Finding.{led_is, named_none, root_begins, step_reaches}
@@ -46,6 +48,7 @@ pub record RenamesEntry (state after : State) : Type 0 where
   pub target : Option ℕ
   pub there : name_at state.nodes from.0 from.1 ≡ Some object
   pub into : is_directory_at state.nodes to.0 ≡ true
+  pub good : IsShort to.1
   pub at_target : name_at state.nodes to.0 to.1 ≡ target
   pub moves : MovesTo state from to object target after
 
@@ -61,6 +64,7 @@ pub record Makes (state : State) (numbers : ℕ → ℕ) (after : State) : Type 
   pub bare : node.xattrs ≡ []
   pub serial : node.serial ≡ length state.nodes + 1
   pub small : node.permissions < 4096
+  pub good : IsShort name
   pub number : node.ids.ino ≡ numbers node.ids.dev
   pub leaves : after ≡ with_made state dir name node
 
@@ -138,6 +142,13 @@ not_not false is = cc
 last_directory : (dir : Node) (name : List ℕ) → last_refusal dir name ≡ None → is_directory dir ≡ true
 last_directory dir name is = not_not (is_directory dir) (passes_first (not (is_directory dir)) _ _ is).0
 
+-- the last name of a path is one
+last_named : (dir : Node) (name : List ℕ) → last_refusal dir name ≡ None → IsShort name
+last_named dir name is =
+    let within = passes_first (not (is_directory dir)) _ _ is in
+    let short = passes_first (nat_lt name_max (length name)) _ _ within.1 in
+    ltb-false name_max (length name) short.0
+
 past_there : (nodes : List Node) (at : Place) (part : List ℕ) (next : Place) → IsThere nodes at.0 →
     past nodes at part ≡ placed next → IsThere nodes next.0
 past_there nodes at [] next there is =
@@ -162,17 +173,27 @@ root_found : (held : Option (ℕ × Node)) (root : ℕ × Node) → ok_or held e
 root_found None root is = cc
 root_found (Some other) root is = (let e : other ≡ root = cc in ap (λ o. Some o) e)
 
-pub judged_there : (nodes : List Node) (path : List ℕ) (place : Place) → judged nodes path ≡ Ok place →
-    IsPlaced nodes place
-judged_there nodes path place is =
+judged_both : (nodes : List Node) (path : List ℕ) (place : Place) → judged nodes path ≡ Ok place →
+    IsPlaced nodes place × IsShort place.1
+judged_both nodes path place is =
     let root = then_placed (ok_or (from_root nodes path) enoent) (judged_from nodes path) place is in
     let begins = root_begins nodes path root.0 (root_found (from_root nodes path) root.0 root.1) in
     let at = then_placed (place_from nodes (root.0, []) (parts path)) judged_at place root.2 in
     let none = none_refused (last_refusal at.0.0.1 at.0.1) at.0 place at.2 in
-    subst (IsPlaced nodes) none.1 (
-      from_there nodes (root.0, []) (parts path) at.0 begins.1 at.1,
-      last_directory at.0.0.1 at.0.1 none.0,
+    subst (λ (p : Place). IsPlaced nodes p × IsShort p.1) none.1 (
+      (
+        from_there nodes (root.0, []) (parts path) at.0 begins.1 at.1,
+        last_directory at.0.0.1 at.0.1 none.0,
+      ),
+      last_named at.0.0.1 at.0.1 none.0,
     )
+
+pub judged_there : (nodes : List Node) (path : List ℕ) (place : Place) → judged nodes path ≡ Ok place →
+    IsPlaced nodes place
+judged_there nodes path place is = (judged_both nodes path place is).0
+
+pub judged_named : (nodes : List Node) (path : List ℕ) (place : Place) → judged nodes path ≡ Ok place → IsShort place.1
+judged_named nodes path place is = (judged_both nodes path place is).1
 
 -- ---- each edit
 
@@ -202,7 +223,7 @@ unlink_outcome state place at =
     )))
 
 module _ (state : State) (from to : ℕ × List ℕ) (object : ℕ) (there : name_at state.nodes from.0 from.1 ≡ Some object)
-    (into : is_directory_at state.nodes to.0 ≡ true) where
+    (into : is_directory_at state.nodes to.0 ≡ true) (good : IsShort to.1) where
   renames : (target : Option ℕ) (after : State) → name_at state.nodes to.0 to.1 ≡ target →
       MovesTo state from to object target after → RenamesEntry state after
   renames target after is moves =
@@ -213,6 +234,7 @@ module _ (state : State) (from to : ℕ × List ℕ) (object : ℕ) (there : nam
         target = target;
         there = there;
         into = into;
+        good = good;
         at_target = is;
         moves = moves;
       }
@@ -262,9 +284,9 @@ target_is state place (Some at) sound there is =
     leads_from state.nodes place (Some at.0) there (led_is state.nodes (there_in place.0.1 place.1) at is).0
 
 rename_outcome : (state : State) (new : List ℕ) (from to : Place) → IsSound state →
-    IsPlaced state.nodes from → IsPlaced state.nodes to →
+    IsPlaced state.nodes from → IsPlaced state.nodes to → IsShort to.1 →
     Outcome state (rename_placed state new from to) (RenamesEntry state)
-rename_outcome state new from to sound at into =
+rename_outcome state new from to sound at into good =
     by_led state (led_on state.nodes (there_in from.0.1 from.1)) _ (RenamesEntry state)
     (λ led is.
     let target = led_on state.nodes (there_in to.0.1 to.1) in
@@ -273,27 +295,27 @@ rename_outcome state new from to sound at into =
     (rename_onto state (named_at from) (named_at to) led.0 led.1 target) (RenamesEntry state)
     (λ _. onto_outcome state (named_at from) (named_at to) led.0
     (leads_from state.nodes from (Some led.0) at.0 (led_is state.nodes (there_in from.0.1 from.1) led is).0)
-    (ap is_directory_where into.0 ∙ into.1) led.1 target (target_is state to target sound into.0 refl)))
+    (ap is_directory_where into.0 ∙ into.1) good led.1 target (target_is state to target sound into.0 refl)))
 
 renamed_outcome : (state : State) (new : List ℕ) (from to : Result Place Errno) → IsSound state →
     ((place : Place) → from ≡ Ok place → IsPlaced state.nodes place) →
-    ((place : Place) → to ≡ Ok place → IsPlaced state.nodes place) →
+    ((place : Place) → to ≡ Ok place → IsPlaced state.nodes place × IsShort place.1) →
     Outcome state (rename_judged state new from to) (RenamesEntry state)
 renamed_outcome state new (Err errno) to sound at into = inl (errno, refl)
 renamed_outcome state new (Ok from) (Err errno) sound at into = inl (errno, refl)
 renamed_outcome state new (Ok from) (Ok to) sound at into =
     if_not state ((length from.1 == 0) || (length to.1 == 0)) _ (rename_placed state new from to) (RenamesEntry state)
-    (rename_outcome state new from to sound (at from refl) (into to refl))
+    (rename_outcome state new from to sound (at from refl) (into to refl).0 (into to refl).1)
 
 pub none_there : (there : Option ℕ) → is_some there ≡ false → there ≡ None
 none_there None is = refl
 none_there (Some object) is = cc
 
 made_in : (state : State) (numbers : ℕ → ℕ) (permissions uid gid rdev : ℕ) (content : Content) (place : Place) →
-    permissions < 4096 → IsPlaced state.nodes place → there_in place.0.1 place.1 ≡ None → names_in content ≡ [] →
+    permissions < 4096 → IsPlaced state.nodes place → IsShort place.1 → there_in place.0.1 place.1 ≡ None → names_in content ≡ [] →
     Outcome state (make_in state numbers place.0.0 place.1 permissions uid gid rdev content place.0.1)
     (Makes state numbers)
-made_in state numbers permissions uid gid rdev content place small at free empty =
+made_in state numbers permissions uid gid rdev content place small at good free empty =
     inr (
       with_made state place.0.0 place.1 (made state numbers permissions uid gid rdev content place.0.1),
       refl,
@@ -309,19 +331,20 @@ made_in state numbers permissions uid gid rdev content place small at free empty
         bare = refl;
         serial = refl;
         small = small;
+        good = good;
         number = refl;
         leaves = refl;
       },
     )
 
 make_outcome : (state : State) (numbers : ℕ → ℕ) (mode uid gid : ℕ) (content : Content) (place : Place) →
-    IsPlaced state.nodes place → names_in content ≡ [] →
+    IsPlaced state.nodes place → IsShort place.1 → names_in content ≡ [] →
     Outcome state (make_at state numbers mode uid gid content place) (Makes state numbers)
-make_outcome state numbers mode uid gid content place at empty =
+make_outcome state numbers mode uid gid content place at good empty =
     let there = there_in place.0.1 place.1 in
     unless_refused state (first_refusal (new_checks there (size_of content)))
     (make_in state numbers place.0.0 place.1 (mode % 4096) uid gid 0 content place.0.1) (Makes state numbers)
-    (λ none. made_in state numbers (mode % 4096) uid gid 0 content place (omega arith) at
+    (λ none. made_in state numbers (mode % 4096) uid gid 0 content place (omega arith) at good
     (none_there there (passes_first (is_some there) eexist _ none).0) empty)
 
 write_outcome : (state : State) (bytes : List ℕ) (place : Place) →
@@ -347,15 +370,17 @@ edit_outcome state numbers (edit.Unlink path) sound =
     (λ at is. unlink_outcome state at (judged_there state.nodes path at is))
 edit_outcome state numbers (edit.Rename old new) sound =
     renamed_outcome state new (judged state.nodes old) (judged state.nodes new) sound
-    (λ place is. judged_there state.nodes old place is) (λ place is. judged_there state.nodes new place is)
+    (λ place is. judged_there state.nodes old place is) (λ place is. judged_both state.nodes new place is)
 edit_outcome state numbers (edit.File path mode uid gid bytes) sound =
     by_place state _ (judged state.nodes path) (make_at state numbers mode uid gid (Regular bytes))
     (Makes state numbers)
-    (λ at is. make_outcome state numbers mode uid gid (Regular bytes) at (judged_there state.nodes path at is) refl)
+    (λ at is. let there = judged_both state.nodes path at is in
+    make_outcome state numbers mode uid gid (Regular bytes) at there.0 there.1 refl)
 edit_outcome state numbers (edit.Dir path mode uid gid) sound =
     by_place state _ (judged state.nodes path) (make_at state numbers mode uid gid (Directory []))
     (Makes state numbers)
-    (λ at is. make_outcome state numbers mode uid gid (Directory []) at (judged_there state.nodes path at is) refl)
+    (λ at is. let there = judged_both state.nodes path at is in
+    make_outcome state numbers mode uid gid (Directory []) at there.0 there.1 refl)
 edit_outcome state numbers (edit.Write path bytes) sound =
     by_place state _ (judged state.nodes path) (write_at state bytes) (Rewrites state)
     (λ at is. write_outcome state bytes at)

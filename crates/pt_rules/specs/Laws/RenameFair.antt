@@ -26,7 +26,7 @@ use Rattle.pt_node.specs.Node.{name_at, object_of}
 use Rattle.pt_node.specs.Opening.{first_refusal}
 use Rattle.pt_node.specs.Paths.{led_on}
 use Rattle.pt_node.specs.Slots.{open_at}
-use Rattle.pt_rules.specs.Sound.{IsSound}
+use Rattle.pt_rules.specs.Sound.{IsShort, IsSound}
 use Rattle.pt_rules.specs.State.{State, time_of, tree_of}
 use Rattle.pt_node.specs.declared.node.Node.{Node}
 use Rattle.pt_node.specs.declared.slots.OpenFile.{OpenFile}
@@ -36,7 +36,7 @@ use Rattle.pt_rules.specs.Laws.EditLaws.{moves_name}
 use Rattle.pt_rules.specs.Laws.EditShapes.{first, object_gained, second, third}
 use Rattle.pt_rules.specs.Laws.EditSound.{sound_moved}
 use Rattle.pt_rules.specs.Laws.Fair.{IsFair, fair_refused}
-use Rattle.pt_rules.specs.Laws.NameFair.{asked_there, changed_other, keeps_others, there_at}
+use Rattle.pt_rules.specs.Laws.NameFair.{asked_named, asked_there, changed_other, keeps_others, there_at}
 use Rattle.pt_rules.specs.Laws.NamesLed.{names_exchanged, put_back, put_there, sound_exchanged, with_both, with_one}
 use Rattle.pt_rules.specs.Laws.NamesLed.{with_stamp}
 use Rattle.pt_rules.specs.Laws.Opens.{open_there}
@@ -140,7 +140,7 @@ module _ (state : State) (seat : HostSeat) (fd : Fd) (name : List ℕ) (fd2 : Fd
     (sound : IsSound state)
     (file file2 : OpenFile) (is : open_at state.slots fd.0 ≡ Some file) (too : open_at state.slots fd2.0 ≡ Some file2)
     (out : is_directory_at state.nodes file.object ≡ true) (into : is_directory_at state.nodes file2.object
-    ≡ true) where
+    ≡ true) (good : IsShort name2) where
   abbrev from : ℕ × List ℕ
   from = (file.object, name)
 
@@ -201,6 +201,7 @@ module _ (state : State) (seat : HostSeat) (fd : Fd) (name : List ℕ) (fd2 : Fd
           target = target;
           there = there;
           into = into;
+          good = good;
           at_target = at;
           moves = moves;
         } in
@@ -225,7 +226,7 @@ module _ (state : State) (seat : HostSeat) (fd : Fd) (name : List ℕ) (fd2 : Fd
         IsFair state (call.Rename fd name fd2 name2 flags) (done (with_moved state from to object target))
     fair_moved target few other fits at apart =
         fair_renamed (with_moved state from to object target)
-        (λ n. sound_moved state from to object target sound there into)
+        (λ n. sound_moved state from to object target sound good there into)
         (by_flags target (with_moved state from to object target) few fits at (λ two.
         absurd (other two)) (inr (apart, refl)))
         refl refl
@@ -361,5 +362,5 @@ module _ (state : State) (seat : HostSeat) (fd : Fd) (name : List ℕ) (fd2 : Fd
       by_name state (IsFair state (call.Rename fd name fd2 name2 flags)) refuses seat fd2 name2 _
       (λ file2 dir2 too there2 asks2. fair_between state seat fd name fd2 name2 flags sound file file2 is too
       (asked_there state seat file.object dir name there asks)
-      (asked_there state seat file2.object dir2 name2 there2 asks2)
+      (asked_there state seat file2.object dir2 name2 there2 asks2) (asked_named seat dir2 name2 asks2)
       dir dir2 there there2 (nat_lt exchange flags) refl)))

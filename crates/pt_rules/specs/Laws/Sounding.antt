@@ -1,9 +1,10 @@
 -- Proof. A state stays sound where its objects stay what they are and nothing comes to life.
-use Rattle.std.proofs.Common.{◌≡◌, ◌<◌, ◌^◌, inl, inr, ℕ, List, length, Some, subst, refl, ap, sym, ◌∙◌}
+use Rattle.std.proofs.Common.{◌≡◌, ◌<◌, ◌≤◌, ◌+◌, ◌^◌, inl, inr, ℕ, List, length, Some, subst, refl, ap, sym, ◌∙◌}
 use Rattle.pt_host.specs.Tree.{Object}
+use Rattle.pt_host.specs.declared.ids.ObjIds.{ObjIds}
 use Rattle.pt_rules.specs.Holds.{HasName, HasHold}
 use Rattle.pt_node.specs.Slots.{open_at}
-use Rattle.pt_rules.specs.Sound.{AreOrdered, IsMade, IsSound}
+use Rattle.pt_rules.specs.Sound.{AreOrdered, IsMade, IsShort, IsSound}
 use Rattle.pt_rules.specs.State.{State}
 use Rattle.pt_node.specs.declared.node.Node.{Node}
 use Rattle.pt_node.specs.declared.slots.OpenFile.{OpenFile}
@@ -27,14 +28,17 @@ stays_kept before after keeps = record {
 pub made_stays : (place : ℕ) (before after : Node) → Stays before after → IsMade place before → IsMade place after
 made_stays place before after stays made = record {
   serial = stays.serial ∙ made.serial;
+  numbered = subst (λ (ids : ObjIds). ids.ino ≤ place + 1) (sym stays.ids) made.numbered;
   permissions = stays.permissions made.permissions;
   ordered = stays.ordered made.ordered;
   attributed = stays.attributed made.attributed;
 }
 
--- what a name leads to lived, and is there
+-- what a name leads to lived, and is there, and the name is one
 abbrev pub NamedBefore : State → List Node → Type 0
-NamedBefore before nodes = (object : ℕ) → HasName nodes object → HasHold before object × (object < length before.nodes)
+NamedBefore before nodes =
+    (object : ℕ) (has : HasName nodes object) →
+    HasHold before object × (object < length before.nodes) × IsShort has.1
 
 -- what a descriptor is open on lived, and is there
 abbrev pub OpenedBefore : State → List Slot → Type 0
@@ -72,6 +76,7 @@ sound_after before nodes slots sound alike named opened = record {
       let was = alike.each place node is in
       made_stays place was.0 node was.2 (sound.made place was.0 was.1);
   named = λ dir name object is. subst (λ n. object < n) (sym alike.long) (named object (dir, name, is)).1;
+  short = λ dir name object is. (named object (dir, name, is)).2;
   opened = λ fd file is. subst (λ n. file.object < n) (sym alike.long) (opened fd file is).1;
   apart = λ object another node that is other lives lives_too dev ino.
       let was = alike.each object node is in
@@ -85,7 +90,8 @@ sound_after before nodes slots sound alike named opened = record {
 
 -- the names of before
 pub named_still : (before : State) → IsSound before → NamedBefore before before.nodes
-named_still before sound object has = (inr (inl has), sound.named has.0 has.1 object has.2)
+named_still before sound object has =
+    (inr (inl has), sound.named has.0 has.1 object has.2, sound.short has.0 has.1 object has.2)
 
 -- the descriptors of before
 pub opened_still : (before : State) → IsSound before → OpenedBefore before before.slots

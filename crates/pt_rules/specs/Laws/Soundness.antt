@@ -127,6 +127,7 @@ sound-counted state sound = record {
   few = sound.few;
   made = sound.made;
   named = sound.named;
+  short = sound.short;
   opened = sound.opened;
   apart = sound.apart;
 }

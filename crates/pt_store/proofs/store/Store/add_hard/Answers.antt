@@ -10,7 +10,7 @@ use Rattle.pt_node.specs.declared.inodes.NumberTable.{NumberTable}
 use Rattle.pt_node.specs.declared.node.Node.{Node}
 use Rattle.pt_rules.specs.Laws.Changed.{AreAlike}
 use Rattle.pt_rules.specs.Laws.NamesLed.{alike_linked}
-use Rattle.pt_store.proofs.NewPlaces.{place_free}
+use Rattle.pt_store.proofs.NewPlaces.{place_free, place_good}
 use Rattle.pt_store.proofs.StartKept.{started_alike}
 use Rattle.pt_store.proofs.OldPaths.{named_lives}
 use Rattle.pt_store.proofs.store.Store.add_hard.Goals as goal
@@ -28,6 +28,13 @@ link_name-requires-clause-free c =
     let place = ap (λ (ns : List Node). place_of ns c.args.path.now) (sym c.deref.ensures.value)
     ∙ sym c.in-Some.ensures in
     (place_free nodes c.args.path.now (c.in-Some.dir, c.in-Some.name.now) place).1
+
+pub link_name-requires-clause-good : goal.link_name-requires-clause-good
+link_name-requires-clause-good c =
+    let nodes = c.args.self.now.nodes.items in
+    let place = ap (λ (ns : List Node). place_of ns c.args.path.now) (sym c.deref.ensures.value)
+    ∙ sym c.in-Some.ensures in
+    place_good nodes c.args.path.now (c.in-Some.dir, c.in-Some.name.now) place
 
 pub link_name-requires-clause-lives : goal.link_name-requires-clause-lives
 link_name-requires-clause-lives c =

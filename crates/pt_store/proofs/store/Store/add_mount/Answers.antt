@@ -11,7 +11,7 @@ use Rattle.pt_rules.specs.State.{State}
 use Rattle.pt_store.specs.StoreState.{numbered, state_of}
 use Rattle.pt_node.specs.declared.mounts.Mount.{Mount}
 use Rattle.pt_node.specs.declared.node.Node.{Node}
-use Rattle.pt_store.proofs.NewPlaces.{place_free}
+use Rattle.pt_store.proofs.NewPlaces.{place_free, place_good}
 use Rattle.pt_store.proofs.StartKept.{first_number, started_as}
 use Rattle.pt_store.proofs.StartMounts.{new_mount, own_device, started_mounted}
 use Rattle.pt_store.proofs.store.Store.add_mount.Goals as goal
@@ -52,6 +52,14 @@ start_node-requires-clause-free c =
     let place = ap (λ (ns : List Node). place_of ns path) (sym c.deref.ensures.value)
     ∙ ap (place_of c.deref.result.now) (sym c.as_slice-2.ensures) ∙ sym c.in-Some.ensures in
     (place_free nodes path (c.in-Some.dir, c.in-Some.name.now) place).1
+
+pub start_node-requires-clause-good : goal.start_node-requires-clause-good
+start_node-requires-clause-good c =
+    let nodes = c.args.self.now.nodes.items in
+    let path = c.args.path.now in
+    let place = ap (λ (ns : List Node). place_of ns path) (sym c.deref.ensures.value)
+    ∙ ap (place_of c.deref.result.now) (sym c.as_slice-2.ensures) ∙ sym c.in-Some.ensures in
+    place_good nodes path (c.in-Some.dir, c.in-Some.name.now) place
 
 pub start_node-requires-clause-mounted : goal.start_node-requires-clause-mounted
 start_node-requires-clause-mounted c =

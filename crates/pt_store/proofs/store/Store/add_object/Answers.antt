@@ -8,7 +8,7 @@ use Rattle.pt_rules.specs.Edits.{with_made}
 use Rattle.pt_rules.specs.State.{State}
 use Rattle.pt_store.specs.StoreState.{numbered, state_of}
 use Rattle.pt_node.specs.declared.node.Node.{Node}
-use Rattle.pt_store.proofs.NewPlaces.{place_free}
+use Rattle.pt_store.proofs.NewPlaces.{place_free, place_good}
 use Rattle.pt_store.proofs.store.Store.add_object.Goals as goal
 
 pub start_node-requires-clause-into : goal.start_node-requires-clause-into
@@ -24,6 +24,13 @@ start_node-requires-clause-free c =
     let place = ap (λ (ns : List Node). place_of ns c.args.path.now) (sym c.deref.ensures.value)
     ∙ sym c.in-Some.ensures in
     (place_free nodes c.args.path.now (c.in-Some.dir, c.in-Some.name.now) place).1
+
+pub start_node-requires-clause-good : goal.start_node-requires-clause-good
+start_node-requires-clause-good c =
+    let nodes = c.args.self.now.nodes.items in
+    let place = ap (λ (ns : List Node). place_of ns c.args.path.now) (sym c.deref.ensures.value)
+    ∙ sym c.in-Some.ensures in
+    place_good nodes c.args.path.now (c.in-Some.dir, c.in-Some.name.now) place
 
 pub start_node-requires-clause-mounted : goal.start_node-requires-clause-mounted
 start_node-requires-clause-mounted c =

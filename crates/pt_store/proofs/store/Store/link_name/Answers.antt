@@ -35,4 +35,4 @@ returns-clause-kept c =
     ∙ ap (λ (b : Bool). raised c.args.dir (weight b) holds.directories) (c.is_directory_at-is_directory.ensures
     ∙ ap (λ (ns : List Node). is_directory_at ns object) c.deref.ensures.value))) refl
     (kept_linked state holds tables c.args.dir c.args.name.now object c.requires.kept c.requires.into c.requires.free
-    c.requires.lives)
+    c.requires.good c.requires.lives)

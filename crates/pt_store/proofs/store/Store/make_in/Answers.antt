@@ -56,9 +56,9 @@ returns-in-Ok-add_node-clause-kept c =
     (put_at n (Open (having c.len-object.result)) (tables dev)) tables) c.in-Ok-add.ensures.number
     ∙ ap (λ (o : ℕ). given dev (having o) tables) object)
     (kept_made state holds tables c.requires.kept c.args.dir c.args.name.now node parent c.requires.into
-    c.requires.free c.requires.empty refl refl c.requires.small at_dir
+    c.requires.free c.requires.empty refl refl c.requires.small c.requires.good at_dir
     refl few _ (nested_made state holds tables c.requires.kept c.args.dir c.args.name.now node parent c.requires.into
-    c.requires.free c.requires.empty refl refl c.requires.small at_dir refl few _ (c.in-Some.ensures.1
+    c.requires.free c.requires.empty refl refl c.requires.small c.requires.good at_dir refl few _ (c.in-Some.ensures.1
     ∙ ap (λ (b : Bool). slice_index holds.directories c.args.dir + weight b) c.is_directory.ensures)))
 
 pub returns-in-Err-clause-kept : goal.returns-in-Err-clause-kept

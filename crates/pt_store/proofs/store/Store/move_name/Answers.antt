@@ -62,4 +62,4 @@ returns-clause-kept c =
     ∙ ap (λ n. given_up_where n c.number_where-number.result c.args.target holds.holds tables) dev
     ∙ ap (λ n. given_up_where (device_where state.nodes c.args.target) n c.args.target holds.holds tables) number)
     (kept_moved state holds tables from to c.args.object c.args.target c.requires.kept c.requires.leads
-    c.requires.into c.requires.target)
+    c.requires.into c.requires.good c.requires.target)

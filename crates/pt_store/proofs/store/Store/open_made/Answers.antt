@@ -80,7 +80,7 @@ returns-in-Ok-add_node-clause-kept c =
     (put_at n (Open (having c.len-object.result)) (tables dev)) tables) c.in-Ok-add.ensures.number
     ∙ ap (λ (o : ℕ). given dev (having o) tables) object)
     (kept_open_made state holds tables c.requires.kept c.args.dir c.args.name.now node parent c.requires.into
-    c.requires.free refl refl refl c.requires.small at_dir
+    c.requires.free refl refl refl c.requires.small c.requires.good at_dir
     refl few seat flags refl)
 
 pub returns-in-Ok-add_node-clause-answers : goal.returns-in-Ok-add_node-clause-answers

@@ -49,6 +49,6 @@ returns-clause-starting c =
     ∙ ap (λ (o : ℕ). given dev (having o) tables) object)
     (started_made state holds tables starting dir name node parent.0 c.requires.into c.requires.free c.requires.empty
     c.requires.bare
-    c.requires.serial c.requires.small parent.1 (sym full) few c.requires.mounted _
+    c.requires.serial c.requires.small c.requires.good parent.1 (sym full) few c.requires.mounted _
     (c.in-Some.ensures.1
     ∙ ap (λ (b : Bool). slice_index holds.directories dir + weight b) c.is_directory.ensures))
