@@ -53,6 +53,7 @@ use Rattle.pt_fs.proofs.Ended.{belongs_by}
 use Rattle.pt_fs.proofs.Laws.{Ran, comes_to_end, ended_of, host_runs, steps_same}
 use Rattle.pt_fs.proofs.Plainly.{each_plain, in_job_order, own_found, plain_job, plain_jobs, told_found, told_same}
 use Rattle.pt_run.specs.Filled.{EndsWith, ServesContents, seated_as}
+use Rattle.pt_run.specs.Sized.{AreFilled}
 use Rattle.pt_run.proofs.Ordered.{AreJobs, HasSeat, runs_in_order}
 
 -- an edit's one step is made under its seat
@@ -168,7 +169,7 @@ module _ (plan : Plan) (limit : ℕ) (jobs : List Job) (opened : State) (tables 
     (begins : tables ≡ empty_tables limit)
     (runs : TraceRuns Does trace opened (map job_seat jobs) tables end seats tables')
     (seated : SeatedEach plan jobs trace) (ends : EndsWhole plan jobs [] trace answers)
-    (found : FoundMemory trace answers) (filled : Each (λ job. IsFilled (asked_of job)) jobs) where
+    (found : FoundMemory trace answers) (filled : AreFilled jobs) where
   ran : Ran Does plan limit jobs opened tables trace answers end tables'
   ran = record {
     seats = map job_seat jobs;
@@ -189,8 +190,8 @@ module _ (plan : Plan) (limit : ℕ) (jobs : List Job) (opened : State) (tables 
       (hosts_told Does (λ (s : State). s.faults) does_promised j (turns_of trace) opened tables end tables'
       (host_runs Does trace opened (map job_seat jobs) tables end seats tables' runs))
 
-  filled_at : (all : List Job) → Each (λ job. IsFilled (asked_of job)) all → (i : ℕ) (job : Job) →
-      slice_get all i ≡ Some job → IsFilled (asked_of job)
+  filled_at : (all : List Job) → AreFilled all → (i : ℕ) (job : Job) → slice_get all i ≡ Some job →
+      IsFilled (asked_of job)
   filled_at [] f i job at = absurd (cc)
   filled_at (first ∷ all) f zero job at =
       subst (λ (o : Option Job). OfSome o) at f.0
@@ -263,9 +264,9 @@ module _ (plan : Plan) (limit : ℕ) (jobs : List Job) (opened : State) (tables 
 -- of a run
 pub run_contents : (plan : Plan) (limit : ℕ) (jobs : List Job) (opened : State) (tables : Tables)
     (trace : List TraceStep) (answers : List Answer) (end : State) (seats : List HostSeat) (tables' : Tables) →
-    tables ≡ empty_tables limit →
+    tables ≡ empty_tables limit → AreFilled jobs →
     IsRun Does plan jobs opened (Some (tree_of opened)) tables trace answers end (Some (tree_of end)) seats tables' →
     ServesContents plan jobs opened tables trace answers end tables'
-run_contents plan limit jobs opened tables trace answers end seats tables' begins run ends found filled =
+run_contents plan limit jobs opened tables trace answers end seats tables' begins filled run ends found =
     served_contents plan limit jobs opened tables trace answers end tables' run.steps.seats begins run.steps.runs
     run.seated ends found filled

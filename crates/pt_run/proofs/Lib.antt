@@ -5,6 +5,8 @@ pub mod CommandWords
 pub mod Rooted
 pub mod Ordered
 pub mod Contents
+pub mod Sized
+pub mod SizedJobs
 pub mod Opening
 pub mod Started
 pub mod Unplanned

@@ -1,6 +1,5 @@
 -- Believed. What the jobs of a script without a schedule are over the tree host: a plain file system with contents.
 use Rattle.std.specs.Prelude.{◌≡◌, List, [], map, true}
-use Rattle.pt_host.specs.Words.{Each}
 use Rattle.pt_rules.specs.State.{State, contents_of, tree_of}
 use Rattle.pt_tables.specs.Rows.{IsHandleRow}
 use Rattle.pt_tables.specs.Tables.{Tables}
@@ -10,7 +9,6 @@ use Rattle.pt_req.specs.declared.plan.Plan.{Plan}
 use Rattle.pt_law.specs.World.{World, Runs as WorldRuns}
 use Rattle.pt_plain.specs.Run.{EndsAs}
 use Rattle.pt_filled.specs.Contents.{FilledTree}
-use Rattle.pt_filled.specs.Filled.{IsFilled}
 use Rattle.pt_filled.specs.Run.{SeatedAsked, ServesFilled, filled_start}
 use Rattle.pt_fs.specs.Determined.{FoundMemory}
 use Rattle.pt_fs.specs.Ends.{EndsWhole}
@@ -43,8 +41,8 @@ pub record EndsWith
       after.accesses row.handle ≡ ((contents_of host).descriptions row.fd.0).access
 
 -- Where the schedule is empty, so that each job ran whole before the next began, no seat was lost and no memory was
--- wanting, and each listing's size is one of 32 bits: a plain file system with contents serves what was asked, one request
--- after another, and answers so, and at the end it has what host and tables have.
+-- wanting: a plain file system with contents serves what was asked, one request after another, and answers so, and at
+-- the end it has what host and tables have.
 abbrev pub ServesContents :
     (plan : Plan) →
     (jobs : List Job) →
@@ -56,6 +54,6 @@ abbrev pub ServesContents :
     (tables' : Tables) →
     Type 0
 ServesContents plan jobs opened tables trace answers host tables' =
-    EndsWhole plan jobs [] trace answers → FoundMemory trace answers → Each (λ job. IsFilled (asked_of job)) jobs →
+    EndsWhole plan jobs [] trace answers → FoundMemory trace answers →
     (after : FilledTree) × ServesFilled plan (map seated_as jobs) answers (filled_start opened) after
     × EndsWith opened tables trace host tables' after

@@ -9,6 +9,7 @@ pub mod Report
 pub mod Status
 pub mod Configured
 pub mod Filled
+pub mod Sized
 pub mod Run
 pub mod Counts
 pub mod Counted

@@ -10,6 +10,7 @@ ghost use Rattle.pt_tree.specs.Start.{StartsAs};
 ghost use Rattle.pt_run.specs.Counted.{IsCountOf};
 ghost use Rattle.pt_run.specs.Counts.{counts_of, count_lines};
 ghost use Rattle.pt_run.specs.Run.{AreLive, IsRunFrom};
+ghost use Rattle.pt_run.specs.Sized.{AreFilled};
 
 use crate::counts::{Counts, StepCount, handles_of, lacking_in, lives_of, refused_in, served_in};
 use crate::make_report::{Ran, run_jobs};
@@ -28,6 +29,7 @@ fn run_generated(
 ) -> Result<Left<PassthroughFs>, AllocError>
     requires few { length script.jobs.items < 2 ^ 32 }
     requires seats { StartAll script.jobs.items }
+    requires sizes { AreFilled script.jobs.items }
     requires settings { script.settings ≡ no_settings }
     requires tree { StartsAs generated_tree script.host }
     ensures { IfOk result (λ left. (trace : List TraceStep) × (host : State)

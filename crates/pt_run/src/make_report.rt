@@ -15,6 +15,7 @@ ghost use Rattle.pt_run.specs.Run.{
   IsNoReport,
 };
 ghost use Rattle.pt_run.specs.Reported.{IsReported};
+ghost use Rattle.pt_run.specs.Sized.{AreFilled};
 ghost use Rattle.pt_run.specs.declared.status.Status.TheVariants as ended;
 
 use crate::report::{LostJob, StepLines, push_answers, push_lost};
@@ -143,6 +144,7 @@ pub(crate) fn run_jobs<R: Record>(
 ) -> Result<Ran, Status>
     requires few { length jobs.items < 2 ^ 32 }
     requires seats { StartAll jobs.items }
+    requires sizes { AreFilled jobs.items }
     ensures ok { IfOk result (λ ran. Wrote R.wrote writer.old writer.new (λ trace. IsRunFrom settings host.old
         jobs.items schedule.now trace ran.left.answers.items ran.left.fs.tables host.new ran.lost)) }
     ensures err { IfErr result (λ status. IsNotOpened settings host.old status) }
@@ -213,6 +215,7 @@ fn no_lines(alloc: Global, jobs: usize) -> StepLines
 fn report_of_jobs(alloc: Global, script: Script) -> Result<Report, Status>
     requires few { length script.jobs.items < 2 ^ 32 }
     requires seats { StartAll script.jobs.items }
+    requires sizes { AreFilled script.jobs.items }
     ensures ok { IfOk result (λ report. IsReported script.settings script.host script.jobs.items script.schedule
         report.ends report.text.items) }
     ensures err { IfErr result (λ status. IsNotOpened script.settings script.host status) }

@@ -1,7 +1,13 @@
-use Rattle.std.proofs.Common.{arith}
+use Rattle.std.proofs.Common.{arith, subst, sym}
 use Rattle.pt_run.specs.Counts.{count_lines}
+use Rattle.pt_run.specs.Sized.{AreFilled}
 use Rattle.pt_run.proofs.Counting.{counted, if_counted}
+use Rattle.pt_run.proofs.SizedJobs.{generated_filled}
 use Rattle.pt_run.proofs.make_counts.counts_of_generated.Goals as goal
+
+pub run_generated-requires-clause-sizes : goal.run_generated-requires-clause-sizes
+run_generated-requires-clause-sizes c =
+    subst AreFilled (sym c.in_ok-script.ensures.jobs) (generated_filled c.args.jobs c.args.seed)
 
 pub returns : goal.returns
 returns c =

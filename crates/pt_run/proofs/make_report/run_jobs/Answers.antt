@@ -17,7 +17,7 @@ returns-in-Ok-clause-ok g c =
         seats = seated c.in-Ok.left.seats.items;
         run = ran.so.0;
         ends = ran.so.1;
-        filled = run_contents _ _ _ _ _ _ _ _ _ _ c.in_ok-fs.ensures.ok.tables ran.so.0;
+        filled = run_contents _ _ _ _ _ _ _ _ _ _ c.in_ok-fs.ensures.ok.tables c.requires.sizes ran.so.0;
       };
     }
 
@@ -36,6 +36,6 @@ returns-in-Err-CredentialsLost-clause-ok g c =
         seats = seated there.left.seats.items;
         run = ran.so.0;
         ends = ran.so.1;
-        filled = run_contents _ _ _ _ _ _ _ _ _ _ c.in_ok-fs.ensures.ok.tables ran.so.0;
+        filled = run_contents _ _ _ _ _ _ _ _ _ _ c.in_ok-fs.ensures.ok.tables c.requires.sizes ran.so.0;
       };
     }
