@@ -57,7 +57,7 @@ fn state_takes<R: Abort>(
     assert!(rt; is_wanted, "it wants another act");
     assert!(rt; !job.restoring(), "it restores its seat");
     assert!(rt; !job.is_finished(), "it has ended");
-    job.take(plan, told.reply(), seat);
+    job.take(plan, told.reply(alloc), seat);
 }
 
 fn forgets<R: Abort>(rt: &R, alloc: Global) -> Option<bool> {
@@ -117,7 +117,7 @@ fn any_takes<R: Abort>(
     let is_wanted = is_act(alloc, &job.want(plan, seat), wanted);
     assert!(rt; is_wanted, "it wants another act");
     assert!(rt; !job.is_finished(), "it has ended");
-    job.take(plan, told.reply(), seat);
+    job.take(plan, told.reply(alloc), seat);
 }
 
 fn unlinks<R: Abort>(rt: &R, alloc: Global) -> Option<bool> {

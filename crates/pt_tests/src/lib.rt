@@ -5,6 +5,8 @@
 #[cfg(test)]
 mod capabilities;
 #[cfg(test)]
+mod counts;
+#[cfg(test)]
 mod drives;
 #[cfg(test)]
 mod faces;
@@ -14,6 +16,8 @@ mod generated;
 mod jobs;
 #[cfg(test)]
 mod laws;
+#[cfg(test)]
+mod listings;
 #[cfg(test)]
 mod one_directory;
 #[cfg(test)]

@@ -27,6 +27,8 @@ pub enum Told {
     Began,
     /// The number is that of a directory, kept as descriptor 4.
     Resolved,
+    /// A handle's row, and its descriptor.
+    Pinned(u64, u32),
     Absent,
     Claimed(u64),
     Taken,
@@ -40,6 +42,8 @@ pub enum Told {
     Fd(u32),
     /// The object is a file.
     Stat,
+    Count(u64),
+    Bytes(&'static [u8]),
     Refused(Errno),
     Fault(Errno),
 }
@@ -53,13 +57,25 @@ impl Told {
         ActReply::Host(HostReply::Ok(value))
     }
 
-    pub fn reply(self) -> ActReply {
+    /// Where there is no memory for the bytes, the host had none.
+    fn bytes(alloc: Global, bytes: &[u8]) -> ActReply {
+        match Bytes::from_slice(alloc, bytes) {
+            Ok(bytes) => Told::by_host(HostValue::Bytes(bytes)),
+            Err(_) => ActReply::Host(HostReply::NoMemory),
+        }
+    }
+
+    pub fn reply(self, alloc: Global) -> ActReply {
         match self {
             Told::Began => Told::by_tables(EventReply::Began {
                 era: 1,
                 negotiated: Negotiated::NONE,
             }),
             Told::Resolved => Told::by_tables(resolved()),
+            Told::Pinned(row, number) => Told::by_tables(EventReply::Pinned {
+                row,
+                fd: Fd(number),
+            }),
             Told::Absent => Told::by_tables(EventReply::Absent),
             Told::Claimed(number) => Told::by_tables(EventReply::Claimed(GivenNumber { number })),
             Told::Taken => Told::by_tables(EventReply::Taken),
@@ -70,6 +86,8 @@ impl Told {
             Told::Unit => Told::by_host(HostValue::Unit),
             Told::Fd(number) => Told::by_host(HostValue::Fd(Fd(number))),
             Told::Stat => Told::by_host(HostValue::Stat(a_stat())),
+            Told::Count(count) => Told::by_host(HostValue::Count(count)),
+            Told::Bytes(bytes) => Told::bytes(alloc, bytes),
             Told::Refused(errno) => ActReply::Host(HostReply::Refused(errno)),
             Told::Fault(errno) => ActReply::Host(HostReply::Fault(errno)),
         }
@@ -155,6 +173,17 @@ impl Played {
     ) -> Option<Played> {
         let mut plan = a_plan(alloc)?;
         plan.capability = capability;
+        Played::start_by(alloc, plan, request)
+    }
+
+    /// Where the guest may use extended attributes.
+    pub fn start_with_xattr(alloc: Global, request: Request) -> Option<Played> {
+        let mut plan = a_plan(alloc)?;
+        plan.config.xattr = true;
+        Played::start_by(alloc, plan, request)
+    }
+
+    fn start_by(alloc: Global, plan: Plan, request: Request) -> Option<Played> {
         let who = Context { uid: 0, gid: 0 };
         match AnyJob::start(alloc, &plan, who, request) {
             Ok(job) => Some(Played::new(job, plan)),
@@ -203,7 +232,7 @@ impl Played {
     /// Whether the job makes this step.
     fn makes(&mut self, alloc: Global, step: Step<'_>) -> bool {
         match step {
-            Step::Acts(wanted, told) => self.wants(alloc, wanted) && self.take(told.reply()),
+            Step::Acts(wanted, told) => self.wants(alloc, wanted) && self.take(told.reply(alloc)),
             Step::Wants(wanted) => self.wants(alloc, wanted),
             Step::Cut => self.cut(),
         }
