@@ -1,102 +1,31 @@
-//! The cases, line by line.
+//! The cases of a text, line by line.
 
-use crate::case::{Case, Made};
-use crate::trouble::Trouble;
-use crate::{errors, files, mounts, paths, readers, serials};
-use pt_host::{Fd, Host, HostOp, HostReply, HostSeat, HostValue, KeptHostOp};
-use pt_script::{next_edit, next_fault, next_identity, next_tree_line};
-use pt_show::{Text, Words, read_text};
+use crate::calls;
+use crate::case::Case;
+use crate::lines::{Line, begins_case, lines_of, push_line};
+use handle_calls::Made;
+use handle_values::Trouble;
+use pt_host::{Fd, Host, HostOp, HostReply, HostValue};
+use pt_script::{next_fault, next_identity, next_tree_line};
+use pt_show::Text;
 use pt_text::{Parts, push_text};
-use pt_words::{end, next_word};
+use pt_words::next_word;
 use std::alloc::{AllocError, Global};
 
-/// Whether there are to be more lines.
+/// How a text ended.
 #[derive(Clone, Copy)]
 pub enum Ending {
     Good,
-    /// The line was bad, which was told.
+    /// By a bad line, which was told.
     Bad,
 }
 
-/// The case whose lines come, and how many lines there were.
+/// The case whose lines come, once there was a line.
 #[derive(Drop)]
-pub struct Subject {
+struct Subject {
     alloc: Global,
     case: Case,
-    lines: u64,
-}
-
-/// Makes the call of this name and puts what it is answered behind the line.
-fn answer(alloc: Global, made: &mut Made, line: &[u8], out: &mut Vec<u8>) -> Result<(), Trouble> {
-    let mut words = Words::new(alloc, line);
-    let name = words.word()?;
-    let is_known = files::take(made, name, &mut words, out)?
-        || serials::take(made, name, &mut words, out)?
-        || mounts::take(made, name, &mut words, out)?
-        || errors::take(name, &mut words, out)?
-        || paths::take(made, name, &mut words, out)?
-        || readers::take(made, name, &mut words, out)?;
-    if !is_known {
-        let call: KeptHostOp = read_text(alloc, line)?;
-        made.host.call(&mut made.seat, &call.lend()).write(out)?;
-    }
-    Ok(())
-}
-
-fn push_seat(out: &mut Vec<u8>, seat: &HostSeat) -> Result<(), AllocError> {
-    for id in [
-        seat.real_uid,
-        seat.eff_uid,
-        seat.saved_uid,
-        seat.real_gid,
-        seat.eff_gid,
-        seat.saved_gid,
-    ] {
-        id.write(out)?;
-    }
-    (seat.groups.as_slice().len() as u64).write(out)?;
-    for group in seat.groups.as_slice() {
-        group.write(out)?;
-    }
-    seat.eff_caps.write(out)?;
-    seat.perm_caps.write(out)?;
-    seat.umask.write(out)
-}
-
-fn push_edited(out: &mut Vec<u8>, reply: &HostReply) -> Result<(), Trouble> {
-    match reply {
-        HostReply::Ok(_) => push_text(out, b" Edited")?,
-        HostReply::Refused(errno) | HostReply::Fault(errno) => {
-            push_text(out, b" EditRefused")?;
-            errno.write(out)?;
-        }
-        HostReply::NoMemory => return Err(Trouble::Memory),
-    }
-    Ok(())
-}
-
-/// The line and what it is answered.
-fn take_answered(case: &mut Case, line: &[u8], out: &mut Vec<u8>) -> Result<(), Trouble> {
-    let alloc = case.alloc;
-    let made = case.made()?;
-    let mut told = Vec::new(alloc);
-    let mut words = Parts::words(line);
-    match next_word(&mut words)? {
-        b"edit" => {
-            let edit = next_edit(alloc, &mut words)?;
-            push_edited(&mut told, &made.host.edit(&edit))?;
-        }
-        b"seat" => {
-            end(&words)?;
-            push_seat(&mut told, &made.seat)?;
-        }
-        _ => answer(alloc, made, line, &mut told)?,
-    }
-    push_text(out, line)?;
-    push_text(out, b" =")?;
-    push_text(out, told.as_slice())?;
-    push_text(out, b"\n")?;
-    Ok(())
+    has_lines: bool,
 }
 
 fn is_of_tree(word: &[u8]) -> bool {
@@ -114,27 +43,21 @@ fn take_seat(case: &mut Case, words: &mut Parts<'_>) -> Result<(), Trouble> {
     }
 }
 
-/// What a line does to the case, and what it tells, which is put behind `out`.
-fn take(case: &mut Case, line: &[u8], out: &mut Vec<u8>) -> Result<(), Trouble> {
-    let mut words = Parts::words(line);
+/// Takes a line that stands before the calls, if it is one.
+fn take_start(case: &mut Case, line: &Line<'_>) -> Result<bool, Trouble> {
+    let mut words = Parts::words(line.text);
     let word = next_word(&mut words)?;
     if is_of_tree(word) {
-        let line = next_tree_line(case.alloc, word, &mut words)?;
-        return case.take_tree_line(line);
+        let told = next_tree_line(case.alloc, word, &mut words)?;
+        case.take_tree_line(told, line.number)?;
+        return Ok(true);
     }
     match word {
-        b"set" => take_seat(case, &mut words),
-        b"fault" => case.plan(next_fault(&mut words)?),
-        b"MountFds::new" => {
-            let mut words = Words::new(case.alloc, line);
-            let _name = words.word()?;
-            mounts::take_new(case.made()?, &mut words)?;
-            push_text(out, line)?;
-            push_text(out, b"\n")?;
-            Ok(())
-        }
-        _ => take_answered(case, line, out),
+        b"set" => take_seat(case, &mut words)?,
+        b"fault" => case.plan(next_fault(&mut words)?)?,
+        _ => return Ok(false),
     }
+    Ok(true)
 }
 
 /// The descriptors that are open at the end, and the tree.
@@ -159,54 +82,108 @@ fn push_end(made: &mut Made, alloc: Global, out: &mut Vec<u8>) -> Result<(), Tro
 }
 
 impl Subject {
-    pub fn new(alloc: Global) -> Self {
+    fn new(alloc: Global) -> Self {
         Subject {
             alloc,
             case: Case::new(alloc),
-            lines: 0,
+            has_lines: false,
         }
     }
 
     /// Ends a case, unless no line of it was there.
     fn end_case(&mut self, out: &mut Vec<u8>) -> Result<(), Trouble> {
-        if self.lines == 0 {
+        if !self.has_lines {
             return Ok(());
         }
-        push_end(self.case.made()?, self.alloc, out)
+        push_end(&mut self.case.calls()?.made, self.alloc, out)
     }
 
-    fn take_any(&mut self, line: &[u8], out: &mut Vec<u8>) -> Result<(), Trouble> {
-        if line.starts_with(b"== ") && line.len() > 3 {
-            self.end_case(out)?;
-            self.case = Case::new(self.alloc);
-            push_text(out, line)?;
-            push_text(out, b"\n")?;
-            return Ok(());
-        }
-        take(&mut self.case, line, out)
+    /// Ends the case, and begins the one that a line names.
+    fn begin_case(&mut self, line: &[u8], out: &mut Vec<u8>) -> Result<(), Trouble> {
+        self.end_case(out)?;
+        self.case = Case::new(self.alloc);
+        self.has_lines = true;
+        Ok(push_line(out, line)?)
     }
 
-    /// What a line does, and what it tells, which is put behind `out`.
-    pub fn take_line(&mut self, line: &[u8], out: &mut Vec<u8>) -> Result<Ending, AllocError> {
-        let taken = self.take_any(line, out);
-        self.lines = self.lines.saturating_add(1);
-        match taken {
-            Ok(()) => Ok(Ending::Good),
-            Err(Trouble::Memory) => Err(AllocError),
-            Err(Trouble::Bad) => {
-                push_text(out, b"bad line")?;
-                self.lines.write(out)?;
-                push_text(out, b"\n")?;
-                Ok(Ending::Bad)
-            }
+    /// What a line does, and what it tells, which is put behind `out`. How many lines behind it were taken too.
+    fn take(&mut self, line: &Line<'_>, out: &mut Vec<u8>) -> Result<usize, Trouble> {
+        if begins_case(line.text) {
+            self.begin_case(line.text, out)?;
+            return Ok(0);
+        }
+        self.has_lines = true;
+        if take_start(&mut self.case, line)? {
+            return Ok(0);
+        }
+        calls::take(&mut self.case, line, out)
+    }
+
+    /// The number of the line that was bad, where this one could not be taken: lines of a tree are judged when it is
+    /// made.
+    fn bad_line(&mut self, why: Trouble, number: u64) -> Result<u64, AllocError> {
+        match why {
+            Trouble::At(earlier) => Ok(earlier),
+            Trouble::Memory => Err(AllocError),
+            Trouble::Bad => match self.case.calls() {
+                Err(Trouble::At(earlier)) => Ok(earlier),
+                Err(Trouble::Memory) => Err(AllocError),
+                Ok(_) | Err(Trouble::Bad) => Ok(number),
+            },
         }
     }
 
-    /// What is left to tell at the end.
-    pub fn finish(&mut self, out: &mut Vec<u8>) -> Result<(), AllocError> {
-        match self.end_case(out) {
-            Ok(()) => Ok(()),
-            Err(_) => Err(AllocError),
+    /// What is told of a line that could not be taken.
+    fn tell_bad(
+        &mut self,
+        why: Trouble,
+        number: u64,
+        out: &mut Vec<u8>,
+    ) -> Result<Ending, AllocError> {
+        let number = self.bad_line(why, number)?;
+        push_text(out, b"bad line")?;
+        number.write(out)?;
+        push_text(out, b"\n")?;
+        Ok(Ending::Bad)
+    }
+}
+
+/// Takes these lines, and tells what comes of them.
+fn take_lines(
+    subject: &mut Subject,
+    lines: &[&[u8]],
+    out: &mut Vec<u8>,
+) -> Result<Ending, AllocError> {
+    let mut behind = lines;
+    let mut number: u64 = 0;
+    let mut passed: usize = 0;
+    for text in lines {
+        number = number.saturating_add(1);
+        behind = behind.get(1..).unwrap_or(&[]);
+        if passed > 0 {
+            passed -= 1;
+            continue;
+        }
+        let line = Line {
+            alloc: subject.alloc,
+            text: *text,
+            behind,
+            number,
+        };
+        match subject.take(&line, out) {
+            Ok(taken) => passed = taken,
+            Err(why) => return subject.tell_bad(why, number, out),
         }
     }
+    match subject.end_case(out) {
+        Ok(()) => Ok(Ending::Good),
+        Err(why) => subject.tell_bad(why, number, out),
+    }
+}
+
+/// Takes the lines of a text, and tells what comes of them.
+pub fn tell_cases(alloc: Global, text: &[u8], out: &mut Vec<u8>) -> Result<Ending, AllocError> {
+    let lines = lines_of(alloc, text)?;
+    let mut subject = Subject::new(alloc);
+    take_lines(&mut subject, lines.as_slice(), out)
 }

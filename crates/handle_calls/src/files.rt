@@ -1,9 +1,9 @@
 //! File handles of objects, and what is opened by them.
 
-use crate::answers::{push_handled, push_openable, push_refusal};
-use crate::case::Made;
-use crate::fields::{end, last, next, next_openable};
-use crate::trouble::Trouble;
+use crate::made::Made;
+use handle_values::{
+    Trouble, end, last, next, next_openable, push_handled, push_openable, push_refusal,
+};
 use pt_handles::{from_fd, from_fd_fail_hard, from_name_at, from_name_at_fail_hard, to_openable};
 use pt_host::{Bytes, CFileHandle, Fd, FileHandle, Host, HostOp, OpenFlags};
 use pt_show::{Text, Words};

@@ -1,16 +1,17 @@
 //! Mounts: the table of a case, and what is asked of the list of mounts.
 
-use crate::answers::{push_handle_error, push_mount, push_mount_error, push_refusal};
-use crate::case::Made;
-use crate::fields::{end, last, next, next_errno, next_mount};
-use crate::trouble::Trouble;
+use crate::made::Made;
+use handle_values::{
+    Trouble, end, last, next, next_errno, next_mount, push_handle_error, push_mount,
+    push_mount_error, push_refusal,
+};
 use pt_handles::{MountFd, MountFds, mount_root_in};
 use pt_host::{Bytes, Fd, Host, HostOp};
 use pt_show::{Text, Words};
 use pt_text::push_text;
 
 /// Makes the case's table of mounts, which is bad where it has one.
-pub fn take_new(made: &mut Made, words: &mut Words<'_>) -> Result<(), Trouble> {
+pub fn make_mounts(made: &mut Made, words: &mut Words<'_>) -> Result<(), Trouble> {
     let prefix: Option<Bytes> = last(words)?;
     if made.mounts.is_some() {
         return Err(Trouble::Bad);

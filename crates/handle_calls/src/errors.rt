@@ -1,8 +1,8 @@
 //! Errors of mounts, and the texts that are shown.
 
-use crate::answers::push_mount_error;
-use crate::fields::{end, last, next, next_errno, next_mount_error, next_serial};
-use crate::trouble::Trouble;
+use handle_values::{
+    Trouble, end, last, next, next_errno, next_mount_error, next_serial, push_mount_error,
+};
 use pt_handles::{FdPathError, HandleError, InodePathError, MountError};
 use pt_host::Bytes;
 use pt_show::{Text, Words};

@@ -1,9 +1,7 @@
 //! Openings by paths and of descriptors anew, and the paths of descriptors.
 
-use crate::answers::{push_handle_error, push_handled, push_ok};
-use crate::case::Made;
-use crate::fields::{end, last, next};
-use crate::trouble::Trouble;
+use crate::made::Made;
+use handle_values::{Trouble, end, last, next, push_handle_error, push_handled, push_ok};
 use pt_handles::{
     FdPathError, ebadf, einval, erofs, get_path_by_fd, is_safe_inode, openat, openat_verbose,
     printable_fd, relative_path, reopen_fd_through_proc, strip_padding,

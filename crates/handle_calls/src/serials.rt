@@ -1,9 +1,10 @@
 //! File handles as plain data.
 
-use crate::answers::{push_equal, push_handle_error, push_mount, push_openable, push_serial};
-use crate::case::Made;
-use crate::fields::{end, last, next_mount, next_openable, next_serial};
-use crate::trouble::Trouble;
+use crate::made::Made;
+use handle_values::{
+    Trouble, end, last, next_mount, next_openable, next_serial, push_equal, push_handle_error,
+    push_mount, push_openable, push_serial,
+};
 use pt_handles::{FileOrHandle, HandleError, SerializableFileHandle};
 use pt_host::{Fd, FileHandle};
 use pt_show::{Text, Words};

@@ -7,6 +7,8 @@ use std::alloc::{AllocError, AllocFailed};
 pub enum Trouble {
     /// It is no line, or may not stand where it does.
     Bad,
+    /// An earlier line, of this number, is none.
+    At(u64),
     Memory,
 }
 

@@ -1,9 +1,7 @@
 //! The reader of a case, entry by entry.
 
-use crate::answers::push_ok;
-use crate::case::Made;
-use crate::fields::{end, last, next};
-use crate::trouble::Trouble;
+use crate::made::Made;
+use handle_values::{Trouble, end, last, next, push_ok};
 use pt_handles::{DirectoryIterator, ReadDir, ReadDirError};
 use pt_host::{Bytes, Fd};
 use pt_show::{Text, Words};
