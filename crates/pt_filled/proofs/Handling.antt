@@ -259,7 +259,7 @@ rows_goes j w on (Changes asked) (Host told) s n g handle = absurd g.made
 returns_event : (asked : Change) (told : EventReply) → ReturnsByEvent asked → IsStillEvent asked told
 returns_event (change.Unpin row) told r = tt
 returns_event (change.UnpinHandle row) told r = tt
-returns_event change.GiveFd told r = tt
+returns_event (change.GiveFd class) told r = tt
 returns_event (change.GiveBack era number) told r = tt
 returns_event change.TakeClosing told r = tt
 returns_event asked told r = absurd r

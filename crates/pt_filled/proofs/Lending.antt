@@ -109,8 +109,8 @@ module _ (j : Thread) (session : BegunSession) (number : ℕ) (fd : Fd) (next : 
       Goal = LendsFd j w.state fd next last w'
 
       taken : (d : Full) (handle : ℕ) → d.state ≡ w.state → (told : ActReply) (done : Unit {0}) (mid on : Full) →
-          taken_in told ≡ Some done → Makes j d (Changes change.TakeFd) told mid →
-          IdlesBy j (closings_in (Changes change.TakeFd) told) mid on →
+          taken_in told ≡ Some done → Makes j d (Changes (change.TakeFd 0)) told mid →
+          IdlesBy j (closings_in (Changes (change.TakeFd 0)) told) mid on →
           At j (insert_handle session handle number fd (next handle)) on last w' → Goal
       taken d handle s (Event event.Taken) done mid on e m i k =
           subst (λ (z : State). LendsFd j z fd next last w')
@@ -122,7 +122,7 @@ module _ (j : Thread) (session : BegunSession) (number : ℕ) (fd : Fd) (next : 
           IdlesBy j (closings_in (Changes change.DrawHandle) told) mid on →
           At j (take_fd (insert_handle session handle number fd (next handle))) on last w' → Goal
       drawn (Event (event.Drawn given)) handle mid on e m i k =
-          walk_ask j (Changes change.TakeFd) taken_in _ on last w' n (λ told e. tt) k (λ r. inl (r.errno, r.is))
+          walk_ask j (Changes (change.TakeFd 0)) taken_in _ on last w' n (λ told e. tt) k (λ r. inl (r.errno, r.is))
           (taken on handle (ap (λ (z : Full). z.state) i ∙ m.2.made.1))
       drawn told handle mid on e m i k = absurd (cc)
 

@@ -113,7 +113,7 @@ module _ (G : Type 0) (j : Thread) (session : BegunSession) (fd : Fd) (seen : St
   walk_anew : (w : Full) → ShowsFd (world_of w).tree fd object seen.ids → w.past.latest j.job ≡ Some object →
       At j (numbered_anew session (File fd) seen next) w last w' → (IsRefused w last w' → G) → Goes w → G
   walk_anew w sh latest c out goes =
-      walk_ask j (Changes change.TakeFd) taken_in _ w last w' n (λ told e. tt) c out taken
+      walk_ask j (Changes (change.TakeFd 0)) taken_in _ w last w' n (λ told e. tt) c out taken
     where
       drawn : (a : Full) → IsHidden w a → (told : ActReply) (fresh : ℕ) (mid on : Full) → drawn_in told ≡ Some fresh →
           Makes j a (Changes change.DrawNode) told mid → IdlesBy j (closings_in (Changes change.DrawNode) told) mid on →
@@ -127,10 +127,11 @@ module _ (G : Type 0) (j : Thread) (session : BegunSession) (fd : Fd) (seen : St
       drawn a h told fresh mid on e m i k = absurd (cc)
 
       taken : (told : ActReply) (done : Unit {0}) (mid on : Full) → taken_in told ≡ Some done →
-          Makes j w (Changes change.TakeFd) told mid → IdlesBy j (closings_in (Changes change.TakeFd) told) mid on →
+          Makes j w (Changes (change.TakeFd 0)) told mid → IdlesBy j (closings_in (Changes (change.TakeFd 0)) told)
+          mid on →
           At j (draw_node (λ fresh. insert session fresh (File fd) seen next)) on last w' → G
       taken (Event event.Taken) done mid on e m i k =
-          let h = hidden_by j w mid on change.TakeFd _ m m.2.made.1 m.2.goes.past i in
+          let h = hidden_by j w mid on (change.TakeFd 0) _ m m.2.made.1 m.2.goes.past i in
           walk_ask j (Changes change.DrawNode) drawn_in _ on last w' n (λ told e. tt) k
           (λ r. out (refused_from w on last w' h.keeps r)) (drawn on h)
       taken told done mid on e m i k = absurd (cc)

@@ -121,19 +121,20 @@ record Walked (j : Thread) (steps : List Step) (w : Full) (on : State) (tables :
   left : to.tables ≡ tables
 
 -- the steps of a job, from where a run has come to
-walks_at : (limit bound : ℕ) (j : Thread) (front : List Turn) (steps : List Step) (more : List Turn) (start : World)
-    (w : Full) (on : State) (seat' : HostSeat) (tables : Tables) (past : SeatPast) → IsNew limit start →
+walks_at : (limits : List ℕ) (bound : ℕ) (j : Thread) (front : List Turn) (steps : List Step) (more : List Turn)
+    (start : World)
+    (w : Full) (on : State) (seat' : HostSeat) (tables : Tables) (past : SeatPast) → IsNew limits start →
     AreDisciplined bound (front ++ (map (turn_by j.job) steps ++ more)) → Runs start front (world_of w) →
     Each (λ (s : Step). LacksMemory s.reply → ⊥) steps → AreMadeAs j.role j.seat past w.seat steps →
     (past_from past steps).lost ≡ None → RunsAlone Does steps w.state w.seat w.tables on seat' tables →
     Walked j steps w on tables
-walks_at limit bound j front [] more start w on seat' tables past s a r m u e k = record {
+walks_at limits bound j front [] more start w on seat' tables past s a r m u e k = record {
   to = w;
-  walks = (law_at limit bound front more start (world_of w) s a r, refl);
+  walks = (law_at limits bound front more start (world_of w) s a r, refl);
   state = sym k.0;
   left = sym k.2;
 }
-walks_at limit bound j front (step ∷ steps) more start w on seat' tables past s a r m u e k =
+walks_at limits bound j front (step ∷ steps) more start w on seat' tables past s a r m u e k =
     let mid : Full = record {
       state = k.0;
       tables = k.2;
@@ -157,13 +158,13 @@ walks_at limit bound j front (step ∷ steps) more start w on seat' tables past 
     let seat = seat_made step.deed step.reply w.state w.seat w.tables k.0 k.1 k.2 m.0 k.3 in
     let a' = subst (AreDisciplined bound) (sym (append_assoc front (turn_by j.job step ∷ [])
     (map (turn_by j.job) steps ++ more))) a in
-    let rest = walks_at limit bound j (front ++ turn_by j.job step ∷ []) steps more start mid on seat' tables lost s a'
+    let rest = walks_at limits bound j (front ++ turn_by j.job step ∷ []) steps more start mid on seat' tables lost s a'
     (runs_append front (turn_by j.job step ∷ []) start (world_of w) (world_of mid) r (world_of mid, goes.goes, refl))
     m.1
     (subst (λ (x : HostSeat). AreMadeAs j.role j.seat lost x steps) (sym seat) u.1) e k.4 in record {
       to = rest.to;
       walks = (
-        law_at limit bound front (turn_by j.job step ∷ (map (turn_by j.job) steps ++ more)) start (world_of w) s a r,
+        law_at limits bound front (turn_by j.job step ∷ (map (turn_by j.job) steps ++ more)) start (world_of w) s a r,
         m.0,
         mid,
         goes,
@@ -247,13 +248,14 @@ record Served (plan : Plan) (number : ℕ) (jobs : List PlainJob) (w : Full) (st
   shown : Shows (world_of to) after
   below : IsBelow to
 
-all_served : (plan : Plan) (limit bound number : ℕ) (front : List Turn) (jobs : List PlainJob) (start : World) (w :
+all_served : (plan : Plan) (limits : List ℕ) (bound number : ℕ) (front : List Turn) (jobs : List PlainJob)
+    (start : World) (w :
     Full)
-    (state : PlainTree) (host : State) (tables : Tables) → IsNew limit start →
+    (state : PlainTree) (host : State) (tables : Tables) → IsNew limits start →
     AreDisciplined bound (front ++ turns_from number jobs) → Runs start front (world_of w) →
     Each (IsWhole plan) jobs → Shows (world_of w) state → IsBelow w →
     RunsWhole jobs w.state w.tables host tables → Served plan number jobs w state host tables
-all_served plan limit bound number front [] start w state host tables s a r e sh b k = record {
+all_served plan limits bound number front [] start w state host tables s a r e sh b k = record {
   after = state;
   to = w;
   serves = refl;
@@ -263,21 +265,21 @@ all_served plan limit bound number front [] start w state host tables s a r e sh
   shown = sh;
   below = b;
 }
-all_served plan limit bound number front (job ∷ jobs) start w state host tables s a r e sh b k =
+all_served plan limits bound number front (job ∷ jobs) start w state host tables s a r e sh b k =
     let own = map (turn_by number) job.steps in
     let rest = turns_from (suc number) jobs in
     let j : Thread = thread_of plan number job job.asked in
     let v : Full = record w { seat = job.seat } in
-    let walk = walks_at limit bound j front job.steps rest start v k.0 k.1 k.2 no_seat_past s a r e.0.answered.memory
+    let walk = walks_at limits bound j front job.steps rest start v k.0 k.1 k.2 no_seat_past s a r e.0.answered.memory
     e.0.seated.made e.0.loses_none k.3 in
     let a' = subst (AreDisciplined bound) (sym (append_assoc front own rest)) a in
     let runs = runs_of j job.steps v walk.to walk.walks in
     let r' = runs_append front own start (world_of w) (world_of walk.to) r runs in
     let one = served_job plan number job v walk.to state e.0 sh
-    (law_at limit bound front (own ++ rest) start (world_of w) s a r)
-    (law_at limit bound (front ++ own) rest start (world_of walk.to) s a' r') walk.walks in
+    (law_at limits bound front (own ++ rest) start (world_of w) s a r)
+    (law_at limits bound (front ++ own) rest start (world_of walk.to) s a' r') walk.walks in
     let later = lent_over j v walk.to _ job.steps b e.0.answered.ends.2 walk.walks in
-    let more = all_served plan limit bound (suc number) (front ++ own) jobs start walk.to one.0 host tables s a' r' e.1
+    let more = all_served plan limits bound (suc number) (front ++ own) jobs start walk.to one.0 host tables s a' r' e.1
     one.3 later.below (subst (λ (x : State). RunsWhole jobs x walk.to.tables host tables) (sym walk.state)
     (subst (λ (x : Tables). RunsWhole jobs k.0 x host tables) (sym walk.left) k.4)) in record {
       after = more.after;
@@ -319,23 +321,24 @@ no_seat = record {
 }
 
 -- The jobs' answers and the end are a run of the plain file system with contents, over the jobs in order.
-pub filled_run : (plan : Plan) (limit bound : ℕ) (jobs : List PlainJob) (start end : State) (tables : Tables) →
+pub filled_run : (plan : Plan) (limits : List ℕ) (bound : ℕ) (jobs : List PlainJob) (start end : State)
+    (tables : Tables) →
     AreDisciplined bound (turns_from 0 jobs) → Each (IsWhole plan) jobs →
-    RunsWhole jobs start (empty_tables limit) end tables →
+    RunsWhole jobs start (empty_tables limits) end tables →
     (after : FilledTree) × ServesFilled plan (map seated_of jobs) (told_by jobs) (filled_start start) after
-    × EndsFilled limit jobs start end tables after
-filled_run plan limit bound jobs start end tables a e k =
+    × EndsFilled limits jobs start end tables after
+filled_run plan limits bound jobs start end tables a e k =
     let begin : Full = record {
       state = start;
-      tables = empty_tables limit;
+      tables = empty_tables limits;
       past = no_past;
       story = no_story;
       seat = no_seat;
     } in
-    let starts : IsNew limit (start_world limit start) = record { tables = refl; past = refl; story = refl } in
-    let all = all_served plan limit bound 0 [] jobs (start_world limit start) begin (plain_start (tree_of start)) end
+    let starts : IsNew limits (start_world limits start) = record { tables = refl; past = refl; story = refl } in
+    let all = all_served plan limits bound 0 [] jobs (start_world limits start) begin (plain_start (tree_of start)) end
     tables
-    starts a refl e (start_shows limit (start_world limit start) starts) (λ handle it e. absurd (cc)) k in
+    starts a refl e (start_shows limits (start_world limits start) starts) (λ handle it e. absurd (cc)) k in
     let a' = subst (AreDisciplined bound) (sym (append-nil (turns_from 0 jobs))) a in (
       filled all.after all.to,
       all.serves,
@@ -345,12 +348,13 @@ filled_run plan limit bound jobs start end tables a e k =
         same_tree = ap tree_of all.ends;
         same_tables = all.left;
         plain = ends_as (world_of all.to) all.after
-            (law_at limit bound (turns_from 0 jobs) [] (start_world limit start) (world_of all.to) starts a' all.runs)
+            (law_at limits bound (turns_from 0 jobs) [] (start_world limits start) (world_of all.to) starts a' all.runs)
             all.shown;
         contents = ap (λ (s : State). (contents_of s).objects) all.ends;
         accesses = subst (λ (p : State × Tables). AreLent p.0 p.1 (filled all.after all.to))
             (λ i. (all.ends i, all.left i))
-            (lent_rows all.to all.after (law_at limit bound (turns_from 0 jobs) [] (start_world limit start) (world_of all.to)
+            (lent_rows all.to all.after (law_at limits bound (turns_from 0 jobs) [] (start_world limits start)
+            (world_of all.to)
             starts a' all.runs));
       },
     )

@@ -110,7 +110,7 @@ giving_gives : (seat : HostSeat) (one : Hold) → ReturnsHold (Some (giving seat
 giving_gives seat (hold.Pin row fd) = tt
 giving_gives seat (hold.HandlePin row fd) = tt
 giving_gives seat (hold.Fd fd) = tt
-giving_gives seat hold.Slot = tt
+giving_gives seat (hold.Slot class) = tt
 giving_gives seat (hold.Count era number) = tt
 giving_gives seat hold.Groups = tt
 giving_gives seat hold.EffectiveGid = tt
@@ -144,13 +144,14 @@ passed_on j w rest more end w' p q = record {
   walks = q.walks;
 }
 
-pass_slot : (j : Thread) (slot : Bool) (count : ℕ) (holds : List Hold) (rest : Grammar) (w : Full) (steps : List Step)
-    (end : Finish) (w' : Full) → Belongs (give_slot slot count holds rest) steps end → Walks j w steps w' →
+pass_slot : (j : Thread) (slot : Bool) (class count : ℕ) (holds : List Hold) (rest : Grammar) (w : Full)
+    (steps : List Step)
+    (end : Finish) (w' : Full) → Belongs (give_slot slot class count holds rest) steps end → Walks j w steps w' →
     Passed j w rest end w'
-pass_slot j false count holds rest w steps end w' b k = passed_still j w rest steps end w' b k
-pass_slot j true count holds rest w [] end w' b k = absurd b
-pass_slot j true count holds rest w (step ∷ steps) end w' b k =
-    passed_after j w step steps rest end w' (back_deed (Changes change.GiveFd) step.deed step.reply b.0 tt) k
+pass_slot j false class count holds rest w steps end w' b k = passed_still j w rest steps end w' b k
+pass_slot j true class count holds rest w [] end w' b k = absurd b
+pass_slot j true class count holds rest w (step ∷ steps) end w' b k =
+    passed_after j w step steps rest end w' (back_deed (Changes (change.GiveFd class)) step.deed step.reply b.0 tt) k
     (passed_still j k.2 rest steps end w' b.1 k.4)
 
 pass_taken : (j : Thread) (brings : Taken) (count : ℕ) (holds : List Hold) (rest : Grammar) (w : Full) (steps : List
@@ -158,11 +159,12 @@ pass_taken : (j : Thread) (brings : Taken) (count : ℕ) (holds : List Hold) (re
     (end : Finish) (w' : Full) → Belongs (give_taken brings count holds rest) steps end → Walks j w steps w' →
     Passed j w rest end w'
 pass_taken j taken.Nothing count holds rest w steps end w' b k = passed_still j w rest steps end w' b k
-pass_taken j taken.Slot count holds rest w steps end w' b k = pass_slot j true count holds rest w steps end w' b k
-pass_taken j (taken.Fd fd slot) count holds rest w [] end w' b k = absurd b
-pass_taken j (taken.Fd fd slot) count holds rest w (step ∷ steps) end w' b k =
+pass_taken j (taken.Slot class) count holds rest w steps end w' b k =
+    pass_slot j true class count holds rest w steps end w' b k
+pass_taken j (taken.Fd fd slot class) count holds rest w [] end w' b k = absurd b
+pass_taken j (taken.Fd fd slot class) count holds rest w (step ∷ steps) end w' b k =
     passed_after j w step steps rest end w' (back_deed (Calls (call.Close fd)) step.deed step.reply b.0 tt) k
-    (pass_slot j slot count holds rest k.2 steps end w' b.1 k.4)
+    (pass_slot j slot class count holds rest k.2 steps end w' b.1 k.4)
 
 pass_closings : (j : Thread) (count : ℕ) (holds : List Hold) (rest : Grammar) (w : Full) (steps : List Step)
     (end : Finish) (w' : Full) → Belongs (closings count holds rest) steps end → Walks j w steps w' →
@@ -261,7 +263,7 @@ scope_seats seat hold.Umask e = (_, refl, tt)
 scope_seats seat (hold.Pin row fd) e = absurd (cc)
 scope_seats seat (hold.HandlePin row fd) e = absurd (cc)
 scope_seats seat (hold.Fd fd) e = absurd (cc)
-scope_seats seat hold.Slot e = absurd (cc)
+scope_seats seat (hold.Slot class) e = absurd (cc)
 scope_seats seat (hold.Count era number) e = absurd (cc)
 
 made_goes : (j : Thread) (w mid : Full) (deed : Deed) (step : Step) → IsStepOf deed step.deed step.reply →

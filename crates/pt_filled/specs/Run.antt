@@ -27,9 +27,9 @@ RunsWhole (job ∷ jobs) host tables host' tables' =
     × RunsAlone Does job.steps host job.seat tables mid left tables1 × RunsWhole jobs mid tables1 host' tables'
 
 -- a new session on this host
-abbrev pub start_world : ℕ → State → World
-start_world limit host =
-    record { tree = tree_of host; tables = empty_tables limit; past = no_past; story = no_story }
+abbrev pub start_world : List ℕ → State → World
+start_world limits host =
+    record { tree = tree_of host; tables = empty_tables limits; past = no_past; story = no_story }
 
 -- what there is before the first request
 abbrev pub filled_start : State → FilledTree
@@ -57,10 +57,11 @@ ServesFilled plan (it ∷ more) (told ∷ answers) state after =
 ServesFilled plan asked answers state after = ⊥
 
 -- at the end it is what host and tables are
-pub record EndsFilled (limit : ℕ) (jobs : List PlainJob) (start end : State) (tables : Tables) (after : FilledTree)
+pub record EndsFilled (limits : List ℕ) (jobs : List PlainJob) (start end : State) (tables : Tables)
+    (after : FilledTree)
     : Type 0 where
   pub world : World
-  pub runs : Runs (start_world limit start) (turns_from 0 jobs) world
+  pub runs : Runs (start_world limits start) (turns_from 0 jobs) world
   pub same_tree : world.tree ≡ tree_of end
   pub same_tables : world.tables ≡ tables
   pub plain : EndsAs world after.plain

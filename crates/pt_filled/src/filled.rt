@@ -14,10 +14,10 @@ ghost use Rattle.pt_filled.specs.Whole.{IsWhole};
 /// Jobs that run whole over the tree host, one after another, with no want of memory and no lost seat, are served by
 /// the plain file system: names, numbers, handles and contents.
 pub fn whole_jobs_are_filled()
-    ensures { (plan : Plan) (limit bound : ℕ) (jobs : List PlainJob) (start end : State) (tables : Tables) →
+    ensures { (plan : Plan) (limits : List ℕ) (bound : ℕ) (jobs : List PlainJob) (start end : State) (tables : Tables) →
         AreDisciplined bound (turns_from 0 jobs) → Each (IsWhole plan) jobs →
-        RunsWhole jobs start (empty_tables limit) end tables →
+        RunsWhole jobs start (empty_tables limits) end tables →
         (after : FilledTree)
         × ServesFilled plan (map seated_of jobs) (map (λ job. job.last) jobs) (filled_start start) after
-        × EndsFilled limit jobs start end tables after }
+        × EndsFilled limits jobs start end tables after }
 {}

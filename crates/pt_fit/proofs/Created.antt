@@ -84,11 +84,12 @@ looked_makes_none plan era agreed parent name entry own l =
     (tt, (refl, (tt, giving l.giving l.numbered)))
   where
     giving : (steps : List Step) →
-        (steps ≡ made (Changes (claiming era l.stat)) (Event (event.Claimed (again entry.inode))) ∷ [])
+        ((class : ℕ) × (steps ≡ made (Changes (claiming era l.stat)) (Event (event.Claimed (again entry.inode class)))
+        ∷ []))
         ⊎ ((fresh : ℕ) × (told : ActReply) × InsertionGives entry.inode told
         × (steps ≡ inserting era l.fd l.stat fresh told)) →
         Each (λ (step : Step). MakesNone step.deed step.reply) steps
-    giving steps (inl e) = subst (Each (λ (step : Step). MakesNone step.deed step.reply)) (sym e) (tt, tt)
+    giving steps (inl h) = subst (Each (λ (step : Step). MakesNone step.deed step.reply)) (sym h.1) (tt, tt)
     giving steps (inr h) =
         subst (Each (λ (step : Step). MakesNone step.deed step.reply)) (sym h.3) (tt, (tt, (tt, (tt, tt))))
 
@@ -141,8 +142,9 @@ bare_none : (x : Option Opening) → bare_latest x ≡ None → x ≡ None
 bare_none None e = refl
 bare_none (Some o) e = absurd (none_some (sym e))
 
-module _ (limit bound : ℕ) (plan : Plan) (turns : List Turn) (start end : World) (j parent : ℕ) (name : List ℕ)
-    (entry : Entry) (handle : ℕ) (s : Starts limit start) (d : AreDisciplined bound turns)
+module _ (limits : List ℕ) (bound : ℕ) (plan : Plan) (turns : List Turn) (start end : World) (j parent : ℕ)
+    (name : List ℕ)
+    (entry : Entry) (handle : ℕ) (s : Starts limits start) (d : AreDisciplined bound turns)
     (r : Runs start turns end) (c : CreatedBy plan parent name entry handle (steps_of j turns)) where
   whole : AreDisciplined bound (turns ++ [])
   whole = rw append-nil d
@@ -172,14 +174,14 @@ module _ (limit bound : ℕ) (plan : Plan) (turns : List Turn) (start end : Worl
   entered : Each (λ (step : Step). GivesNone step.deed step.reply) c.back →
       IsEntered plan end (steps_of j turns) j parent name entry
   entered quiet =
-      entered_law limit bound plan turns start end j parent name entry c.era c.agreed front c.own c.back s d r c.all
+      entered_law limits bound plan turns start end j parent name entry c.era c.agreed front c.own c.back s d r c.all
       c.looked_up quiet
 
   -- by the steps of a handle behind the lookup
   module _ (e : IsEntered plan end (steps_of j turns) j parent name entry) (new : NewHandle)
       (h : HandledSo end j new) (named : new.handle ≡ handle) (numbered : new.number ≡ entry.inode) where
     handled : IsHandled end h.handling
-    handled = handlings_law limit bound turns [] start end j h.handling s whole r below h.handled
+    handled = handlings_law limits bound turns [] start end j h.handling s whole r below h.handled
 
     created : (IsNewFile end j parent name e.is_given.object h.handling handled.object
         ⊎ ((end.story.found j).making ≡ None)) → IsCreated plan end (steps_of j turns) j parent name entry handle
@@ -218,7 +220,7 @@ module _ (limit bound : ℕ) (plan : Plan) (turns : List Turn) (start end : Worl
       ) in
       let nothing : (end.story.found j).making ≡ None =
       bare_none (end.story.found j).making
-      (ap (λ (z : Findings). z.making) (said_law limit j turns start end s r)
+      (ap (λ (z : Findings). z.making) (said_law limits j turns start end s r)
       ∙ said_stays (λ (z : Findings). z.making) MakesNone making_kept nothing_found (steps_of j turns) none) in
       created (entered i.gives_none) new
       (handled_law j turns start end steps i.back new i.told r all i.gives_no_more i.quiet) refl refl (inr nothing)
@@ -264,12 +266,13 @@ module _ (limit bound : ℕ) (plan : Plan) (turns : List Turn) (start end : Worl
         subst (Each P) (sym (append_assoc n.past_stat (again ∷ []) (anew ∷ later)))
             (each_join P n.past_stat (again ∷ anew ∷ later) (all_still_make n.past_stat n.still_past) own_none),
       ) in
-      let m = made_law limit bound turns [] start end j s whole r (begin ∷ once ∷ n.first) n.to_stat past giver.middle
+      let m = made_law limits bound turns [] start end j s whole r (begin ∷ once ∷ n.first) n.to_stat past giver.middle
       c.back n.dir (fd_of c.looked_up.resolved.form) name name n.flags by_path n.how 0 n.fd c.looked_up.fd n.stat
       giver.give c.era entry.inode c.looked_up.stat.ids all n.makes kept giver.quiet giver.gives n.same_ids none
       i.gives_none in
       -- what is said of the making
-      let said_is = ap (λ (z : Findings). z.making) (said_law limit j turns start end s r ∙ ap (said nothing_found) all)
+      let said_is = ap (λ (z : Findings). z.making) (said_law limits j turns start end s r ∙ ap (said nothing_found)
+      all)
       ∙ making_said (says nothing_found begin) parent c.resolved n.first behind n.dir name n.flags n.how n.fd
       n.still_first n.makes.0 none in
       let o = from_bare (end.story.found j).making _ said_is in
@@ -288,7 +291,7 @@ module _ (limit bound : ℕ) (plan : Plan) (turns : List Turn) (start end : Worl
       let object : o.0.object ≡ Some e.is_given.object =
       ap (λ (z : Opening). z.object) (sym its) ∙ m.3 e.giving e.given ∙ e.is_given.stood_for in
       let free : o.0.led_to ≡ None = ap (λ (z : Opening). z.led_to) (sym its) ∙ m.2 in
-      let is = openings_law limit bound turns [] start end j o.0 s whole r below (inr o.1) in
+      let is = openings_law limits bound turns [] start end j o.0 s whole r below (inr o.1) in
       let in_it : MadeIn o.0 parent name e.is_given.object = ⊎_elim
       (λ (led : LedTo o.0 is.0 o.0.name is.1). absurd (none_some (sym free ∙ led.had_led)))
       (λ (made_so : MadeIn o.0 is.0 o.0.name is.1). made_there n.fd parent c.resolved.ids o.0 is.0 is.1
@@ -328,15 +331,15 @@ module _ (limit bound : ℕ) (plan : Plan) (turns : List Turn) (start end : Worl
   created_law = ⊎_elim new_file old_file c.way
 
 -- `create` that is answered with an entry and a handle
-pub file_law : (limit bound : ℕ) (plan : Plan) (seat : HostSeat) (who : Context) (turns : List Turn)
+pub file_law : (limits : List ℕ) (bound : ℕ) (plan : Plan) (seat : HostSeat) (who : Context) (turns : List Turn)
     (start end : World) (j parent : ℕ) (name : List ℕ) (mode : ℕ) (kill : Bool) (flags umask : ℕ) (ext : Extensions)
-    (entry : Entry) (handle : ℕ) (options : OpenOptions) → Starts limit start → AreDisciplined bound turns →
+    (entry : Entry) (handle : ℕ) (options : OpenOptions) → Starts limits start → AreDisciplined bound turns →
     Runs start turns end →
     Belongs (grammar_of plan seat who (request.Create parent name mode kill flags umask ext)) (steps_of j turns)
     (finish.Answer (answer.Created entry handle options)) →
     IsCreated plan end (steps_of j turns) j parent name entry handle
-file_law limit bound plan seat who turns start end j parent name mode kill flags umask ext entry handle options s d r
+file_law limits bound plan seat who turns start end j parent name mode kill flags umask ext entry handle options s d r
     b =
     let c = created_parts plan seat who parent name mode kill flags umask ext entry handle options (steps_of j turns)
     b in
-    created_law limit bound plan turns start end j parent name entry handle s d r c
+    created_law limits bound plan turns start end j parent name entry handle s d r c

@@ -46,8 +46,8 @@ given_so : (era : ℕ) (fd : Fd) (stat : Stat) (number fresh : ℕ) (told : ActR
     GivesBy era number stat.ids (Some (Changes (adding era fd stat fresh))) told
 given_so era fd stat number fresh told (inl e) =
     subst (λ t. GivesBy era number stat.ids (Some (Changes (adding era fd stat fresh))) t) (sym e) (refl, refl, refl)
-given_so era fd stat number fresh told (inr e) =
-    subst (λ t. GivesBy era number stat.ids (Some (Changes (adding era fd stat fresh))) t) (sym e) (refl, refl, refl)
+given_so era fd stat number fresh told (inr h) =
+    subst (λ t. GivesBy era number stat.ids (Some (Changes (adding era fd stat fresh))) t) (sym h.1) (refl, refl, refl)
 
 pub giver_of : (plan : Plan) (era : ℕ) (agreed : Negotiated) (parent : ℕ) (name : List ℕ) (entry : Entry)
     (own : List Step) (l : IsLookedUp plan era agreed parent name entry own) →
@@ -57,14 +57,15 @@ giver_of plan era agreed parent name entry own l = ⊎_elim claimed others l.num
     stat : Step
     stat = made (Calls (call.Stat l.fd)) (Host (host.Ok (value.Stat l.stat)))
 
-    claimed : l.giving ≡ made (Changes (claiming era l.stat)) (Event (event.Claimed (again entry.inode))) ∷ [] →
+    claimed : (class : ℕ)
+        × (l.giving ≡ made (Changes (claiming era l.stat)) (Event (event.Claimed (again entry.inode class))) ∷ []) →
         Giver era entry.inode l.stat.ids (stat ∷ l.giving)
-    claimed e = record {
+    claimed h = record {
       middle = stat ∷ [];
-      give = made (Changes (claiming era l.stat)) (Event (event.Claimed (again entry.inode)));
+      give = made (Changes (claiming era l.stat)) (Event (event.Claimed (again entry.inode h.0)));
       quiet = (tt, tt);
       gives = (refl, refl, refl);
-      are = ap (λ z. stat ∷ z) e;
+      are = ap (λ z. stat ∷ z) h.1;
     }
 
     others : (fresh : ℕ) × (told : ActReply) × InsertionGives entry.inode told
@@ -72,7 +73,7 @@ giver_of plan era agreed parent name entry own l = ⊎_elim claimed others l.num
     others h = record {
       middle = stat
           ∷ made (Changes (claiming era l.stat)) (Event event.Absent)
-          ∷ made (Changes change.TakeFd) (Event event.Taken)
+          ∷ made (Changes (change.TakeFd 0)) (Event event.Taken)
           ∷ made (Changes change.DrawNode) (Event (event.Drawn h.0)) ∷ [];
       give = made (Changes (adding era l.fd l.stat h.0)) h.1;
       quiet = (tt, (tt, (tt, (tt, tt))));
@@ -112,8 +113,8 @@ inserted_so : (era : ℕ) (fd : Fd) (stat : Stat) (fresh number : ℕ) (told : A
     (says f (made (Changes (adding era fd stat fresh)) told)).given ≡ Some (given_as era number stat.ids f.latest)
 inserted_so era fd stat fresh number told f (inl e) =
     ap (λ t. (says f (made (Changes (adding era fd stat fresh)) t)).given) e
-inserted_so era fd stat fresh number told f (inr e) =
-    ap (λ t. (says f (made (Changes (adding era fd stat fresh)) t)).given) e
+inserted_so era fd stat fresh number told f (inr h) =
+    ap (λ t. (says f (made (Changes (adding era fd stat fresh)) t)).given) h.1
 
 pub looked_given : (plan : Plan) (era : ℕ) (agreed : Negotiated) (parent : ℕ) (name : List ℕ) (entry : Entry)
     (own : List Step) (l : IsLookedUp plan era agreed parent name entry own) (f : Findings) →
@@ -137,11 +138,12 @@ looked_given plan era agreed parent name entry own l f =
     latest : told.latest ≡ Some (opened_by (sought_by parent l.resolved.ids) name l.fd (Some l.stat))
     latest = stated_same (sought_by parent l.resolved.ids) name l.fd l.stat
 
-    claimed : l.giving ≡ made (Changes (claiming era l.stat)) (Event (event.Claimed (again entry.inode))) ∷ [] →
+    claimed : (class : ℕ)
+        × (l.giving ≡ made (Changes (claiming era l.stat)) (Event (event.Claimed (again entry.inode class))) ∷ []) →
         (said told l.giving).given ≡ Some (given_as era entry.inode l.stat.ids
         (Some (opened_by (sought_by parent l.resolved.ids) name l.fd (Some l.stat))))
-    claimed e =
-        ap (λ (z : List Step). (said told z).given) e
+    claimed h =
+        ap (λ (z : List Step). (said told z).given) h.1
         ∙ ap (λ o. Some (given_as era entry.inode l.stat.ids o)) latest
 
     others : (fresh : ℕ) × (reply : ActReply) × InsertionGives entry.inode reply
@@ -171,14 +173,14 @@ job_below bound j turns step later d e =
     owner_of bound x.0 (record { job = j; step = step }) x.1
     (subst (λ (t : List Turn). Each (λ (s : Turn). s.job < bound) t) x.2 d.owners)
 
-pub entered_law : (limit bound : ℕ) (plan : Plan) (turns : List Turn) (start end : World) (j parent : ℕ)
+pub entered_law : (limits : List ℕ) (bound : ℕ) (plan : Plan) (turns : List Turn) (start end : World) (j parent : ℕ)
     (name : List ℕ) (entry : Entry) (era : ℕ) (agreed : Negotiated) (front own back : List Step) →
-    Starts limit start → AreDisciplined bound turns → Runs start turns end →
+    Starts limits start → AreDisciplined bound turns → Runs start turns end →
     steps_of j turns ≡ made (Changes change.Begin) (Event (event.Began era agreed)) ∷ (front ++ (own ++ back)) →
     IsLookedUp plan era agreed parent name entry own →
     Each (λ (step : Step). GivesNone step.deed step.reply) back →
     IsEntered plan end (steps_of j turns) j parent name entry
-entered_law limit bound plan turns start end j parent name entry era agreed front own back s d r e l quiet =
+entered_law limits bound plan turns start end j parent name entry era agreed front own back s d r e l quiet =
     let begin : Step = made (Changes change.Begin) (Event (event.Began era agreed)) in
     let f : Findings = said (says nothing_found begin) front in
     let all : said nothing_found (steps_of j turns) ≡ said (said f own) back =
@@ -186,12 +188,12 @@ entered_law limit bound plan turns start end j parent name entry era agreed fron
     ∙ said_append f own back in
     let is : bare_given (end.story.found j).given ≡ Some (given_as era entry.inode l.stat.ids
     (Some (opened_by (sought_by parent l.resolved.ids) name l.fd (Some l.stat)))) =
-    ap (λ (z : Findings). z.given) (said_law limit j turns start end s r ∙ all)
+    ap (λ (z : Findings). z.given) (said_law limits j turns start end s r ∙ all)
     ∙ said_stays (λ (z : Findings). z.given) GivesNone given_stays (said f own) back quiet
     ∙ looked_given plan era agreed parent name entry own l f in
     let g = from_bare (end.story.found j).given _ is in
     let below = job_below bound j turns begin (front ++ (own ++ back)) d e in
-    let given = givings_law limit bound turns [] start end j g.0 s (rw append-nil d) r below g.1 in
+    let given = givings_law limits bound turns [] start end j g.0 s (rw append-nil d) r below g.1 in
     let same : Some (bare_opening given.opening)
     ≡ Some (opened_by (sought_by parent l.resolved.ids) name l.fd (Some l.stat)) =
     ap bare_latest (sym given.is_last) ∙ ap (λ (z : Giving). z.opening) g.2 in

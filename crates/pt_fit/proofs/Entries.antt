@@ -233,17 +233,17 @@ entry_named plan seat asked steps entry t b =
     let e = entry_asked plan seat asked steps entry t b in (e.parent, e.name, e.names)
 
 -- at the end of a run
-pub entry_entered : (limit bound : ℕ) (plan : Plan) (seat : HostSeat) (asked : Asked) (turns : List Turn)
-    (start end : World) (j : ℕ) (entry : Entry) → Starts limit start → AreDisciplined bound turns →
+pub entry_entered : (limits : List ℕ) (bound : ℕ) (plan : Plan) (seat : HostSeat) (asked : Asked) (turns : List Turn)
+    (start end : World) (j : ℕ) (entry : Entry) → Starts limits start → AreDisciplined bound turns →
     AllMayBeTold (steps_of j turns) →
     Belongs (grammar_for plan seat asked) (steps_of j turns) (finish.Answer (answer.Entry entry)) →
     (parent : ℕ) × (name : List ℕ) × (name_asked asked ≡ Some (parent, name))
     × (Runs start turns end → IsEntered plan end (steps_of j turns) j parent name entry)
-entry_entered limit bound plan seat asked turns start end j entry s d t b =
+entry_entered limits bound plan seat asked turns start end j entry s d t b =
     let e = entry_asked plan seat asked (steps_of j turns) entry t b in (
       e.parent,
       e.name,
       e.names,
-      (λ r. entered_law limit bound plan turns start end j e.parent e.name entry e.era e.agreed e.front e.own e.back s
+      (λ r. entered_law limits bound plan turns start end j e.parent e.name entry e.era e.agreed e.front e.own e.back s
           d r e.all e.by e.quiet),
     )

@@ -116,11 +116,11 @@ module _ (plan : Plan) (who : Context) (ext : Extensions) where
 
   -- a slot that was refused shows ENFILE, and one that is not taken back shows nothing
   pub no_slot :
-      HasCause (creating 0) (made (Changes change.TakeFd) (Event (event.Refused refused.NoSlot)) ∷ []) enfile
+      HasCause (creating 0) (made (Changes (change.TakeFd 0)) (Event (event.Refused refused.NoSlot)) ∷ []) enfile
   no_slot = inr (inl (inl refl))
 
   pub not_given :
-      SomeShows (creating 0) (made (Changes change.GiveFd) (Event (event.Refused refused.NotLive)) ∷ []) ebadf → ⊥
+      SomeShows (creating 0) (made (Changes (change.GiveFd 0)) (Event (event.Refused refused.NotLive)) ∷ []) ebadf → ⊥
   not_given (inl shown) = absurd (cc)
   not_given (inr later) = later
 

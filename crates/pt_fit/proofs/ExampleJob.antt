@@ -43,7 +43,7 @@ abbrev root_ids : ObjIds
 root_ids = record { ino = 1; dev = 1; mnt_id = 1 }
 
 abbrev root_row : Resolved
-root_row = record { row = 0; form = File (fd 3); ids = root_ids; mode = 16877 }
+root_row = record { row = 0; form = File (fd 3); ids = root_ids; mode = 16877; class = 0 }
 
 abbrev steps : Stat → List Step
 steps stat =
@@ -52,7 +52,7 @@ steps stat =
     ∷ made (Calls (call.OpenAt (fd 3) name by_path 0)) (Host (host.Ok (value.Fd (fd 4))))
     ∷ made (Calls (call.Stat (fd 4))) (Host (host.Ok (value.Stat stat)))
     ∷ made (Changes (change.Claim (claim_of 0 None stat.ids))) (Event event.Absent)
-    ∷ made (Changes change.TakeFd) (Event event.Taken)
+    ∷ made (Changes (change.TakeFd 0)) (Event event.Taken)
     ∷ made (Changes change.DrawNode) (Event (event.Drawn 2))
     ∷ made (Changes (change.Insert (new_row_of 0 2 (File (fd 4)) stat))) (Event (event.Inserted 2))
     ∷ made (Changes (change.Unpin 0)) (Event (event.Done 0)) ∷ []
@@ -73,6 +73,7 @@ row pins = record {
   form = File (fd 3);
   ids = root_ids;
   mode = 16877;
+  class = 0;
   count = 2;
   pins = pins;
   live = true;
@@ -84,8 +85,8 @@ tables next_number next_row slots rows = record {
   next_number = next_number;
   next_handle = 0;
   next_row = next_row;
-  slots = slots;
-  limit = 5;
+  slots = slots ∷ [];
+  limits = 5 ∷ [];
   negotiated = nothing_agreed;
   rows = rows;
   handles = [];
@@ -103,6 +104,7 @@ told stat apart =
       form = File (fd 4);
       ids = stat.ids;
       mode = stat.mode;
+      class = 0;
       count = 1;
       pins = 0;
       live = true;

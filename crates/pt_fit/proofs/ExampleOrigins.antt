@@ -32,7 +32,7 @@ turn = turn_by 0 (made (Calls (call.OpenRoot slash by_path)) (Host (host.Ok (val
 abbrev opened : Stat → Stat → ℕ → World
 opened root file object = record {
   tree = tree root file (set_at 3 (opened_by object) none);
-  tables = empty_tables 5;
+  tables = empty_tables (5 ∷ []);
   past = settled_by no_past 0 (Calls (call.OpenRoot slash by_path)) (Host (host.Ok (value.Fd (fd 3)))) 0
       (tree root file (set_at 3 (opened_by object) none));
   story = story_by (start root file)

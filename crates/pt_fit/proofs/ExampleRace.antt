@@ -237,6 +237,7 @@ row root pins = record {
   form = File (fd 3);
   ids = root.ids;
   mode = root.mode;
+  class = 0;
   count = 2;
   pins = pins;
   live = true;
@@ -249,6 +250,7 @@ added file count = record {
   form = File (fd 4);
   ids = file.ids;
   mode = file.mode;
+  class = 0;
   count = count;
   pins = 0;
   live = true;
@@ -260,8 +262,8 @@ tables next_number next_row slots rows = record {
   next_number = next_number;
   next_handle = 0;
   next_row = next_row;
-  slots = slots;
-  limit = 5;
+  slots = slots ∷ [];
+  limits = 5 ∷ [];
   negotiated = nothing_agreed;
   rows = rows;
   handles = [];
@@ -269,7 +271,7 @@ tables next_number next_row slots rows = record {
 }
 
 abbrev root_row : Stat → Resolved
-root_row root = record { row = 0; form = File (fd 3); ids = root.ids; mode = root.mode }
+root_row root = record { row = 0; form = File (fd 3); ids = root.ids; mode = root.mode; class = 0 }
 
 abbrev event_of : ℕ → Change → EventReply → Turn
 event_of job asked told = turn_by job (made (Changes asked) (Event told))
@@ -282,7 +284,7 @@ turns plan root file =
     event_of 0 change.Begin (event.Began 0 nothing_agreed)
     ∷ call_of 0 (call.OpenRoot plan.config.root_dir by_path) (host.Ok (value.Fd (fd 3)))
     ∷ call_of 0 (call.Stat (fd 3)) (host.Ok (value.Stat root))
-    ∷ event_of 0 change.TakeFd event.Taken
+    ∷ event_of 0 (change.TakeFd 0) event.Taken
     ∷ event_of 0 (change.InsertRoot (new_root_of 0 (File (fd 3)) root None)) (event.Inserted 1)
     ∷ event_of 1 change.Begin (event.Began 0 nothing_agreed)
     ∷ event_of 2 change.Begin (event.Began 0 nothing_agreed)
@@ -294,15 +296,15 @@ turns plan root file =
     ∷ call_of 2 (call.Stat (fd 5)) (host.Ok (value.Stat file))
     ∷ event_of 1 (change.Claim (claim_of 0 None file.ids)) event.Absent
     ∷ event_of 2 (change.Claim (claim_of 0 None file.ids)) event.Absent
-    ∷ event_of 1 change.TakeFd event.Taken
-    ∷ event_of 2 change.TakeFd event.Taken
+    ∷ event_of 1 (change.TakeFd 0) event.Taken
+    ∷ event_of 2 (change.TakeFd 0) event.Taken
     ∷ event_of 1 change.DrawNode (event.Drawn 2)
     ∷ event_of 2 change.DrawNode (event.Drawn 3)
     ∷ event_of 1 (change.Insert (new_row_of 0 2 (File (fd 4)) file)) (event.Inserted 2)
-    ∷ event_of 2 (change.Insert (new_row_of 0 3 (File (fd 5)) file)) (event.Found (again 2))
+    ∷ event_of 2 (change.Insert (new_row_of 0 3 (File (fd 5)) file)) (event.Found (again 2 0))
     ∷ event_of 1 (change.Unpin 0) (event.Done 0)
     ∷ call_of 2 (call.Close (fd 5)) (host.Ok value.Unit)
-    ∷ event_of 2 change.GiveFd event.Given
+    ∷ event_of 2 (change.GiveFd 0) event.Given
     ∷ event_of 2 (change.Unpin 0) (event.Done 0) ∷ []
 
 -- an entry of what is opened by `by_path`
@@ -325,10 +327,10 @@ abbrev closed : ℕ → Option Opened
 closed = set_at 5 None five
 
 abbrev pub start : Stat → Stat → World
-start root file = record { tree = tree root file none; tables = empty_tables 5; past = no_past; story = no_story }
+start root file = record { tree = tree root file none; tables = empty_tables (5 ∷ []); past = no_past; story = no_story }
 
 pub starts : (root file : Stat) → root.ids ≢ file.ids → kind_of root.mode ≡ directory_kind →
-    Starts 5 (start root file)
+    Starts (5 ∷ []) (start root file)
 starts root file apart kind =
     record { tables = refl; well_formed = well root file apart kind none small_none; past = refl; story = refl }
 
@@ -353,7 +355,7 @@ runs plan root file seat apart kind =
     let at_five = well root file apart kind five small_five in
     let at_end = well root file apart kind closed (small_close five 5 small_five) in
     let slot : 2 < 5 = omega arith in
-    event_then seat _ 0 change.Begin (event.Began 0 nothing_agreed) (empty_tables 5) _ (refl, refl) (
+    event_then seat _ 0 change.Begin (event.Began 0 nothing_agreed) (empty_tables (5 ∷ [])) _ (refl, refl) (
     call_then seat _ 0 (call.OpenRoot plan.config.root_dir by_path) (value.Fd (fd 3)) (tree root file three) _ (
       0,
       record { listed = omega arith; fresh = refl; allowed = refl; adds = refl },
@@ -366,7 +368,7 @@ runs plan root file seat apart kind =
       record { ids = refl; kind = refl },
       refl,
     ) tt refl (λ asks. asks) at_three at_three (
-    event_then seat _ 0 change.TakeFd event.Taken (tables 2 0 4 []) _ (inl (omega arith, (refl, refl))) (
+    event_then seat _ 0 (change.TakeFd 0) event.Taken (tables 2 0 4 []) _ (inl (omega arith, (refl, refl))) (
     event_then seat _ 0 (change.InsertRoot (new_root_of 0 (File (fd 3)) root None)) (event.Inserted 1)
     (tables 2 1 4 (row root 0 ∷ [])) _ (inl (refl, inl (tt, inl (omega arith, inl (refl, refl))))) (
     event_then seat _ 1 change.Begin (event.Began 0 nothing_agreed) (tables 2 1 4 (row root 0 ∷ [])) _ (refl, refl) (
@@ -423,9 +425,11 @@ runs plan root file seat apart kind =
     (inl (refl, inl (((λ h. apart h.1), tt), (refl, refl)))) (
     event_then seat _ 2 (change.Claim (claim_of 0 None file.ids)) event.Absent (tables 2 1 4 (row root 2 ∷ [])) _
     (inl (refl, inl (((λ h. apart h.1), tt), (refl, refl)))) (
-    event_then seat _ 1 change.TakeFd event.Taken (tables 2 1 3 (row root 2 ∷ [])) _ (inl (omega arith, (refl, refl)))
+    event_then seat _ 1 (change.TakeFd 0) event.Taken (tables 2 1 3 (row root 2 ∷ [])) _
+    (inl (omega arith, (refl, refl)))
     (
-    event_then seat _ 2 change.TakeFd event.Taken (tables 2 1 2 (row root 2 ∷ [])) _ (inl (omega arith, (refl, refl)))
+    event_then seat _ 2 (change.TakeFd 0) event.Taken (tables 2 1 2 (row root 2 ∷ [])) _
+    (inl (omega arith, (refl, refl)))
     (
     event_then seat _ 1 change.DrawNode (event.Drawn 2) (tables 3 1 2 (row root 2 ∷ [])) _ (inl (
       omega arith,
@@ -453,7 +457,7 @@ runs plan root file seat apart kind =
         ),
       ),
     )) (
-    event_then seat _ 2 (change.Insert (new_row_of 0 3 (File (fd 5)) file)) (event.Found (again 2))
+    event_then seat _ 2 (change.Insert (new_row_of 0 3 (File (fd 5)) file)) (event.Found (again 2 0))
     (tables 4 2 2 (added file 2 ∷ row root 2 ∷ [])) _
     (inl (
       refl,
@@ -473,7 +477,7 @@ runs plan root file seat apart kind =
     )) (
     call_then seat _ 2 (call.Close (fd 5)) value.Unit (tree root file closed) _ refl tt refl (λ asks. asks) at_five
     at_end (
-    event_then seat _ 2 change.GiveFd event.Given (tables 4 2 3 (added file 2 ∷ row root 1 ∷ [])) _ (inl (
+    event_then seat _ 2 (change.GiveFd 0) event.Given (tables 4 2 3 (added file 2 ∷ row root 1 ∷ [])) _ (inl (
       slot,
       (
         refl,
@@ -568,6 +572,6 @@ entered plan root file seat who apart kind =
     let entry = entry_of plan nothing_agreed root.ids file 2 in
     let e = looked_up plan seat who 1 name entry (steps_of 2 (turns plan root file))
     (belongs plan seat who root file 2 (omega arith)) in
-    entered_law 5 3 plan (turns plan root file) (start root file) r.last 2 1 name entry e.0 e.1 [] e.2 e.3
+    entered_law (5 ∷ []) 3 plan (turns plan root file) (start root file) r.last 2 1 name entry e.0 e.1 [] e.2 e.3
     (starts root file apart kind) (ended_jobs 3 (turns plan root file) (ended plan root file seat who apart kind)) r.run
     e.4 e.5 e.6

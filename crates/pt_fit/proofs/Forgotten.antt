@@ -410,14 +410,14 @@ drop_told step t t' i go = at step.deed step.reply i go
     at (Some same) (Event told) i go = absurd (subst (λ (d : Deed). TablesGo t (Some d) (Event told) t') i go)
     at None (Event told) i go = absurd i
 
-pub gone_answered_law : (limit job : ℕ) (plan : Plan) (seat : HostSeat) (who : Context) (what : Request)
+pub gone_answered_law : (limits : List ℕ) (job : ℕ) (plan : Plan) (seat : HostSeat) (who : Context) (what : Request)
     (turns later : List Turn) (was now : Tables) (number : ℕ) (end : Finish) →
-    TablesRun (empty_tables limit) turns was → NoRow was (HasNumber number) → TablesRun was later now →
+    TablesRun (empty_tables limits) turns was → NoRow was (HasNumber number) → TablesRun was later now →
     inserted number later ≡ 0 → IsOn number what → Belongs (grammar_of plan seat who what) (steps_of job later) end →
     (end ≡ finish.Answer (answer.Refused ebadf)) ⊎ IsGivenUp end
     ⊎ EndsBefore plan seat what (steps_of job later) end
 unfolding on go_on
-gone_answered_law limit job plan seat who what turns later was now number end r none k i it b =
+gone_answered_law limits job plan seat who what turns later was now number end r none k i it b =
     let s = resolves plan seat who what number it in
     ends_so what (first (steps_of job later) refl (drops_before plan seat what) s.0 s.1
     (subst (λ tree. Belongs (grammar_of_tree seat tree) (steps_of job later) end) s.2 b))
@@ -432,7 +432,7 @@ gone_answered_law limit job plan seat who what turns later was now number end r 
 
     at : (one : List Step) (step : Step) (two : List Step) → steps_of job later ≡ one ++ step ∷ two → Gone number step
     at one step two e =
-        gone_at number job later was now one step two (agree_law limit turns was r)
+        gone_at number job later was now one step two (agree_law limits turns was r)
         (none_other number was.rows none) k i e
 
     second : (one : List Step) (steps : List Step) (holds : List Hold) (marks : List ℕ)

@@ -275,7 +275,8 @@ pub stats : (fd : Fd) (next : Stat → RequestTree) → ((told : Stat) → Yield
 stats fd next so = asks (Calls (call.Stat fd)) (on stat_in next) (λ h told. refl) (if_stat P next refuses so)
 
 pub takes : (next : RequestTree) → Yields next → Yields (take_fd next)
-takes next so = asks (Changes change.TakeFd) (on taken_in (λ done. next)) (λ h told. refl) (if_taken P next refuses so)
+takes next so = asks (Changes (change.TakeFd 0)) (on taken_in (λ done. next)) (λ h told. refl)
+    (if_taken P next refuses so)
 
 pub draws_handle : (next : ℕ → RequestTree) → ((handle : ℕ) → Yields (next handle)) → Yields (draw_handle next)
 draws_handle next so = asks (Changes change.DrawHandle) (on drawn_in next) (λ h told. refl) (if_drawn P next refuses so)

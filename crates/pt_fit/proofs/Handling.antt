@@ -117,7 +117,7 @@ abbrev handle_drawn : ℕ → Step
 handle_drawn handle = made (Changes change.DrawHandle) (Event (event.Drawn handle))
 
 abbrev slot_taken : Step
-slot_taken = made (Changes change.TakeFd) (Event event.Taken)
+slot_taken = made (Changes (change.TakeFd 0)) (Event event.Taken)
 
 abbrev pub inserted : ℕ → ℕ → ℕ → Fd → ℕ → Step
 inserted era handle number fd told =
@@ -135,7 +135,7 @@ drawing_along session number fd next path last p a =
     let d = along_on (Changes change.DrawHandle) (on drawn_in (λ handle. take_fd (inserts handle))) path last refl p a
     in
     let k = drawn_along (λ handle. take_fd (inserts handle)) d.told d.rest last p d.on in
-    let t = along_on (Changes change.TakeFd) (on taken_in (λ done. inserts k.0)) d.rest last refl p k.2 in
+    let t = along_on (Changes (change.TakeFd 0)) (on taken_in (λ done. inserts k.0)) d.rest last refl p k.2 in
     let m = taken_along (inserts k.0) t.told t.rest last p t.on in
     let asks = change.InsertHandle (new_handle_of session.era k.0 number fd) in
     let i = along_on (Changes asks) (on inserted_in (λ done. next k.0)) t.rest last refl p m.1 in

@@ -19,9 +19,9 @@ pub same : (n : ℕ) → (n == n) ≡ true
 same n = grind arith
 
 -- the descriptor on top goes, with the slot on which it lies
-pub handed_top : (fd : Fd) (holds : List Hold) → handed fd (hold.Fd fd ∷ hold.Slot ∷ holds) ≡ holds
+pub handed_top : (fd : Fd) (holds : List Hold) → handed fd (hold.Fd fd ∷ hold.Slot 0 ∷ holds) ≡ holds
 handed_top fd holds = ap (λ (b : Bool).
-    if b then holds else hold.Fd fd ∷ handed fd (hold.Slot ∷ holds)) (same fd.0)
+    if b then holds else hold.Fd fd ∷ handed fd (hold.Slot 0 ∷ holds)) (same fd.0)
 
 past_end : (n : ℕ) → nat_lt n n ≡ false
 past_end n = grind arith
@@ -55,9 +55,10 @@ bare_uncovered (top ∷ holds) b = go (is_scope top) refl
     go : (scope : Bool) → is_scope top ≡ scope → (if scope then uncovered holds else top ∷ holds) ≡ top ∷ holds
     go false e = refl
     go true e =
-        let laid_so : (if true then top ∷ laid hold.Slot holds else hold.Slot ∷ top ∷ holds) ≡
-        hold.Slot ∷ top ∷ holds =
-        ap (λ (s : Bool). if s then top ∷ laid hold.Slot holds else hold.Slot ∷ top ∷ holds) (sym e) ∙ b hold.Slot in
+        let laid_so : (if true then top ∷ laid (hold.Slot 0) holds else hold.Slot 0 ∷ top ∷ holds) ≡
+        hold.Slot 0 ∷ top ∷ holds =
+        ap (λ (s : Bool). if s then top ∷ laid (hold.Slot 0) holds else hold.Slot 0 ∷ top ∷ holds) (sym e) ∙ b
+        (hold.Slot 0) in
         let no : true ≡ false = sym e ∙ ap top_of laid_so in
         absurd (cc)
 

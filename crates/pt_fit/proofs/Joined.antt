@@ -84,7 +84,7 @@ fit_numbered session fd told next row dir e l t f =
     (fit_draw_node _ (λ fresh.
     fit_insert session fresh fd told next (λ one. refl) e l refl t
     (λ number. f number (pin ∷ []) _ (record { era = refl; given = refl; told = λ other is. is }))
-    (λ number. f number (top ∷ hold.Slot ∷ pin ∷ []) _ (record {
+    (λ number. f number (top ∷ hold.Slot 0 ∷ pin ∷ []) _ (record {
       era = refl;
       given = refl;
       told = λ other is. is;

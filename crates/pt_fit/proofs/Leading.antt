@@ -299,8 +299,8 @@ module _ (seat : HostSeat) (last : Answer) (p : HasEntry last) (Q : List Step �
       f steps (record { holds = hold.HandlePin row fd ∷ holds; marks = marks; belongs = b })
   bared_on rest (hold.Fd fd ∷ holds) marks steps f b =
       f steps (record { holds = hold.Fd fd ∷ holds; marks = marks; belongs = b })
-  bared_on rest (hold.Slot ∷ holds) marks steps f b =
-      f steps (record { holds = hold.Slot ∷ holds; marks = marks; belongs = b })
+  bared_on rest (hold.Slot class ∷ holds) marks steps f b =
+      f steps (record { holds = hold.Slot class ∷ holds; marks = marks; belongs = b })
   bared_on rest (hold.Count era number ∷ holds) marks steps f b =
       f steps (record { holds = hold.Count era number ∷ holds; marks = marks; belongs = b })
   bared_on rest (scope ∷ holds) marks [] f b = absurd b

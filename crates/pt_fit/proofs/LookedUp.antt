@@ -31,25 +31,26 @@ abbrev pub adding : ℕ → Fd → Stat → ℕ → Change
 adding era fd stat fresh = change.Insert (new_row_of era fresh (File fd) stat)
 
 -- a number was given once more
-abbrev pub again : ℕ → GivenNumber
-again number = record { number = number }
+abbrev pub again : ℕ → ℕ → GivenNumber
+again number class = record { number = number; class = class }
 
 -- no number was found at first: a slot was taken and a number drawn, and this is what the insertion was answered
 abbrev pub inserting : ℕ → Fd → Stat → ℕ → ActReply → List Step
 inserting era fd stat fresh told =
     made (Changes (claiming era stat)) (Event event.Absent)
-    ∷ made (Changes change.TakeFd) (Event event.Taken)
+    ∷ made (Changes (change.TakeFd 0)) (Event event.Taken)
     ∷ made (Changes change.DrawNode) (Event (event.Drawn fresh))
     ∷ made (Changes (adding era fd stat fresh)) told ∷ []
 
 -- the insertion gave this number: it was new, or another job's insertion of the same object came first
 abbrev pub InsertionGives : ℕ → ActReply → Type 0
-InsertionGives number told = (told ≡ Event (event.Inserted number)) ⊎ (told ≡ Event (event.Found (again number)))
+InsertionGives number told =
+    (told ≡ Event (event.Inserted number)) ⊎ ((class : ℕ) × (told ≡ Event (event.Found (again number class))))
 
 -- by these steps, the last of which gives it, the number of what is open there was had
 abbrev pub Numbers : ℕ → Fd → Stat → ℕ → List Step → Type 0
 Numbers era fd stat number steps =
-    (steps ≡ made (Changes (claiming era stat)) (Event (event.Claimed (again number))) ∷ [])
+    ((class : ℕ) × (steps ≡ made (Changes (claiming era stat)) (Event (event.Claimed (again number class))) ∷ []))
     ⊎ ((fresh : ℕ) × (told : ActReply) × InsertionGives number told × (steps ≡ inserting era fd stat fresh told))
 
 -- In a session that began so the parent was resolved, the name was opened in the directory of its row, the status of

@@ -84,10 +84,11 @@ stated seat next told rest last p a = absurd (refused_none seat told rest last p
 
 claimed : (seat : HostSeat) (next : Option ℕ → RequestTree) (told : ActReply) (rest : List Step) (last : Answer) →
     HasEntry last → Leads seat (on claimed_in next told) rest last →
-    ((number : ℕ) × (told ≡ Event (event.Claimed (again number))) × Leads seat (next (Some number)) rest last)
+    ((number : ℕ) × (class : ℕ) × (told ≡ Event (event.Claimed (again number class)))
+    × Leads seat (next (Some number)) rest last)
     ⊎ ((told ≡ Event event.Absent) × Leads seat (next None) rest last)
 unfolding on go_on
-claimed seat next (Event (event.Claimed given)) rest last p a = inl (given.number, refl, a)
+claimed seat next (Event (event.Claimed given)) rest last p a = inl (given.number, given.class, refl, a)
 claimed seat next (Event event.Absent) rest last p a = inr (refl, a)
 claimed seat next told rest last p a = absurd (refused_none seat told rest last p a)
 
@@ -109,7 +110,7 @@ inserted : (seat : HostSeat) (next : ℕ → RequestTree) (told : ActReply) (res
     (number : ℕ) × InsertionGives number told × Leads seat (next number) rest last
 unfolding on go_on
 inserted seat next (Event (event.Inserted number)) rest last p a = (number, inl refl, a)
-inserted seat next (Event (event.Found given)) rest last p a = (given.number, inr refl, a)
+inserted seat next (Event (event.Found given)) rest last p a = (given.number, inr (given.class, refl), a)
 inserted seat next told rest last p a = absurd (refused_none seat told rest last p a)
 
 -- the number of what is open there was had by the first of these steps
@@ -142,15 +143,15 @@ gave seat session fd told next steps last p a =
     elim (claimed seat given c.told c.rest last p c.on) [
       | inl k ↦ record {
         number = k.0;
-        own = made (Changes asks) (Event (event.Claimed (again k.0))) ∷ [];
+        own = made (Changes asks) (Event (event.Claimed (again k.0 k.1))) ∷ [];
         rest = c.rest;
-        are = then_step c.are k.1 refl;
-        gives = inl refl;
-        on = k.2;
+        are = then_step c.are k.2 refl;
+        gives = inl (k.1, refl);
+        on = k.3;
       }
       | inr k ↦
-          let t = goes_on seat (Changes change.TakeFd) (on taken_in (λ done. draw_node inserts)) c.rest last refl
-          (none_told change.TakeFd (λ t. refl)) p k.1 in
+          let t = goes_on seat (Changes (change.TakeFd 0)) (on taken_in (λ done. draw_node inserts)) c.rest last refl
+          (none_told (change.TakeFd 0) (λ t. refl)) p k.1 in
           let slot = taken seat (draw_node inserts) t.told t.rest last p t.on in
           let d = goes_on seat (Changes change.DrawNode) (on drawn_in inserts) t.rest last refl
           (none_told change.DrawNode (λ t. refl)) p slot.1 in

@@ -335,7 +335,7 @@ fit_claim {asked = asked} {holds = holds} session fd ids next e l t f g = record
 
 pub fit_take_fd : {asked : Asking} {seen : List Seen} {holds : List Hold} {marks : List ℕ}
     {notes : Notes} (fd : Fd) (next : RequestTree) →
-    FitOn asked seen next (hold.Fd fd ∷ hold.Slot ∷ holds) marks notes →
+    FitOn asked seen next (hold.Fd fd ∷ hold.Slot 0 ∷ holds) marks notes →
     FitOn asked seen (take_fd next) (hold.Fd fd ∷ holds) marks notes
 unfolding on go_on
 fit_take_fd {asked = asked} {holds = holds} fd next f = record {
@@ -343,7 +343,7 @@ fit_take_fd {asked = asked} {holds = holds} fd next f = record {
     (tt, tt),
     elim [
       | Event event.Taken ↦ λ m. f.on _ (still s)
-      | told ↦ λ m. refused_by asked (Changes change.TakeFd) told holds path tt m (λ no. no)
+      | told ↦ λ m. refused_by asked (Changes (change.TakeFd 0)) told holds path tt m (λ no. no)
     ],
   );
 }
@@ -386,10 +386,10 @@ pub fit_insert : {asked : Asking} {seen : List Seen} {holds : List Hold} {marks 
     ((number : ℕ) → FitOn asked seen (next number) (hold.Count session.era number ∷ holds) marks
     (record (with_given number told.ids (unnoted fd notes)) { drawn = None })) →
     ((number : ℕ) → FitOn asked seen (next number)
-    (hold.Count session.era number ∷ hold.Fd fd ∷ hold.Slot ∷ holds) marks
+    (hold.Count session.era number ∷ hold.Fd fd ∷ hold.Slot 0 ∷ holds) marks
     (with_given number told.ids notes)) →
     FitOn asked seen (insert session fresh (File fd) told next)
-    (hold.Fd fd ∷ hold.Slot ∷ holds) marks notes
+    (hold.Fd fd ∷ hold.Slot 0 ∷ holds) marks notes
 unfolding on go_on
 fit_insert {asked = asked} {holds = holds} session fresh fd told next b e l d t f g = record {
   on = λ path s. (
@@ -402,7 +402,7 @@ fit_insert {asked = asked} {holds = holds} session fresh fd told next b e l d t 
       | Event (event.Found given) ↦ λ m. (g given.number).on _ (still s)
       | reply ↦ λ m. refused_by asked
           (Changes (change.Insert (new_row_of session.era fresh (File fd) told))) reply
-          (hold.Fd fd ∷ hold.Slot ∷ holds) path lies m (λ no. no)
+          (hold.Fd fd ∷ hold.Slot 0 ∷ holds) path lies m (λ no. no)
     ],
   );
 }
@@ -412,7 +412,7 @@ pub fit_insert_root : {asked : Asking} {seen : List Seen} {holds : List Hold} {m
     (fd : Fd) (told : Stat) (agreed : Option Negotiated) (next : RequestTree) → notes.era ≡ Some session.era →
     notes.root ≡ Some fd → IsToldLast notes fd told.ids → FitOn asked seen next holds marks (unnoted fd notes) →
     FitOn asked seen (insert_root session (File fd) told agreed next)
-    (hold.Fd fd ∷ hold.Slot ∷ holds) marks notes
+    (hold.Fd fd ∷ hold.Slot 0 ∷ holds) marks notes
 unfolding on go_on
 fit_insert_root {asked = asked} {holds = holds} session fd told agreed next e r t f = record {
   on = λ path s. (
@@ -422,7 +422,7 @@ fit_insert_root {asked = asked} {holds = holds} session fd told agreed next e r 
           λ m. held_as asked next _ _ _ _ _ (handed_top fd holds) (f.on _ (still s))
       | reply ↦ λ m. refused_by asked
           (Changes (change.InsertRoot (new_root_of session.era (File fd) told agreed))) reply
-          (hold.Fd fd ∷ hold.Slot ∷ holds) path lies m (λ no. no)
+          (hold.Fd fd ∷ hold.Slot 0 ∷ holds) path lies m (λ no. no)
     ],
   );
 }
@@ -433,7 +433,7 @@ pub fit_insert_handle : {asked : Asking} {seen : List Seen} {holds : List Hold} 
     notes.era ≡ Some session.era → notes.handle ≡ Some handle →
     notes.resolved ≡ Some (record { number = number; row = row }) →
     notes.reopened ≡ Some fd → FitOn asked seen next holds marks (record (unnoted fd notes) { handle = None }) →
-    FitOn asked seen (insert_handle session handle number fd next) (hold.Fd fd ∷ hold.Slot ∷ holds) marks notes
+    FitOn asked seen (insert_handle session handle number fd next) (hold.Fd fd ∷ hold.Slot 0 ∷ holds) marks notes
 unfolding on go_on
 fit_insert_handle {asked = asked} {holds = holds} session handle number row fd next e h r o f = record {
   on = λ path s. (
@@ -441,7 +441,7 @@ fit_insert_handle {asked = asked} {holds = holds} session handle number row fd n
     elim [
       | Event (event.Inserted given) ↦ λ m. held_as asked next _ _ _ _ _ (handed_top fd holds) (f.on _ (still s))
       | reply ↦ λ m. refused_by asked (Changes (change.InsertHandle (new_handle_of session.era handle number fd))) reply
-          (hold.Fd fd ∷ hold.Slot ∷ holds) path lies m (λ no. no)
+          (hold.Fd fd ∷ hold.Slot 0 ∷ holds) path lies m (λ no. no)
     ],
   );
 }
@@ -522,7 +522,7 @@ fit_place offset next c f = fit_checked (is_bad_offset offset) next c f
 -- the newest descriptor gets a slot, where a count lies on it
 pub fit_take_under : {asked : Asking} {seen : List Seen} {holds : List Hold} {marks : List ℕ}
     {notes : Notes} (era number : ℕ) (fd : Fd) (next : RequestTree) →
-    FitOn asked seen next (hold.Count era number ∷ hold.Fd fd ∷ hold.Slot ∷ holds) marks notes →
+    FitOn asked seen next (hold.Count era number ∷ hold.Fd fd ∷ hold.Slot 0 ∷ holds) marks notes →
     FitOn asked seen (take_fd next) (hold.Count era number ∷ hold.Fd fd ∷ holds) marks notes
 unfolding on go_on
 fit_take_under {asked = asked} {holds = holds} era number fd next f = record {
@@ -530,7 +530,7 @@ fit_take_under {asked = asked} {holds = holds} era number fd next f = record {
     (tt, tt),
     elim [
       | Event event.Taken ↦ λ m. f.on _ (still s)
-      | told ↦ λ m. refused_by asked (Changes change.TakeFd) told holds path tt m (λ no. no)
+      | told ↦ λ m. refused_by asked (Changes (change.TakeFd 0)) told holds path tt m (λ no. no)
     ],
   );
 }
@@ -542,7 +542,7 @@ pub fit_insert_given : {asked : Asking} {seen : List Seen} {holds : List Hold} {
     IsToldLast notes fd ids →
     FitOn asked seen next (hold.Count era number ∷ holds) marks (record (unnoted fd notes) { handle = None }) →
     FitOn asked seen (insert_handle session handle number fd next)
-    (hold.Count era number ∷ hold.Fd fd ∷ hold.Slot ∷ holds) marks notes
+    (hold.Count era number ∷ hold.Fd fd ∷ hold.Slot 0 ∷ holds) marks notes
 unfolding on go_on
 fit_insert_given {asked = asked} {holds = holds} session handle era number fd ids next e h g t f = record {
   on = λ path s. (
@@ -552,7 +552,7 @@ fit_insert_given {asked = asked} {holds = holds} session handle era number fd id
           λ m. held_as asked next _ _ _ _ _
           (ap (λ (z : List Hold). hold.Count era number ∷ z) (handed_top fd holds)) (f.on _ (still s))
       | reply ↦ λ m. refused_by asked (Changes (change.InsertHandle (new_handle_of session.era handle number fd))) reply
-          (hold.Count era number ∷ hold.Fd fd ∷ hold.Slot ∷ holds) path (under refl lies) m
+          (hold.Count era number ∷ hold.Fd fd ∷ hold.Slot 0 ∷ holds) path (under refl lies) m
           (λ no. no)
     ],
   );

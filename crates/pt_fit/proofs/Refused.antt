@@ -46,7 +46,7 @@ event_refused asked (change.Resolve number) refused.NotLive holds path m o = inr
 event_refused asked (change.Resolve number) refused.Last holds path m o = inr (inl (inl refl))
 event_refused asked (change.Claim claim) refused.Overtaken holds path m o = inr (inl (inl refl))
 event_refused asked (change.Claim claim) refused.Last holds path m o = inr (inl (inl refl))
-event_refused asked change.TakeFd refused.NoSlot holds path m o = inr (inl (inl refl))
+event_refused asked (change.TakeFd class) refused.NoSlot holds path m o = inr (inl (inl refl))
 event_refused asked change.DrawNode refused.Last holds path m o = inr (inl (inl refl))
 event_refused asked (change.Insert new) refused.Overtaken holds path m o = inr (inl (inl refl))
 event_refused asked (change.Insert new) refused.Live holds path m o = inr (inl (inl refl))
@@ -66,7 +66,7 @@ event_refused asked (change.PinHandle handle number) refused.Last holds path m o
 event_refused asked (change.Release handle number) refused.NotLive holds path m o = inr (inl (inl refl))
 event_refused asked change.Clear refused.Last holds path m o = inr (inl (inl refl))
 event_refused asked (change.Unpin row) why holds path m o = absurd m
-event_refused asked change.GiveFd why holds path m o = absurd m
+event_refused asked (change.GiveFd class) why holds path m o = absurd m
 event_refused asked (change.GiveBack era number) why holds path m o = absurd m
 event_refused asked (change.UnpinHandle row) why holds path m o = absurd m
 event_refused asked change.TakeClosing why holds path m o = absurd m

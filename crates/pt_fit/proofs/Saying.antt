@@ -39,7 +39,7 @@ giving_says : (decided : Option Negotiated) (seat : HostSeat) (one : Hold) → S
 giving_says decided seat (hold.Pin row fd) = tt
 giving_says decided seat (hold.HandlePin row fd) = tt
 giving_says decided seat (hold.Fd fd) = tt
-giving_says decided seat hold.Slot = tt
+giving_says decided seat (hold.Slot class) = tt
 giving_says decided seat (hold.Count era number) = tt
 giving_says decided seat hold.Groups = tt
 giving_says decided seat hold.EffectiveGid = tt
@@ -48,7 +48,7 @@ giving_says decided seat (hold.Dropped caps) = tt
 giving_says decided seat hold.Umask = tt
 
 returns : (decided : Option Negotiated) → OfReturns (Says decided)
-returns decided = record { gives = giving_says decided; takes = tt; slot = tt; closes = λ fd. tt }
+returns decided = record { gives = giving_says decided; takes = tt; slot = λ class. tt; closes = λ fd. tt }
 
 module _ (decided : Option Negotiated) where
   abbrev Saying : RequestTree → Type 0

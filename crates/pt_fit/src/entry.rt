@@ -20,9 +20,9 @@ ghost use Rattle.pt_fit.specs.Created.{IsCreated};
 /// Whatever is asked, a job that is answered with an entry was given its number for what the name led to that it asks
 /// for, in the directory that its parent stood for; and the entry tells the status of that.
 pub fn entry_opens()
-    ensures { (limit bound : ℕ) (plan : Plan) (seat : HostSeat) (asked : Asked) (turns : List Turn)
+    ensures { (limits : List ℕ) (bound : ℕ) (plan : Plan) (seat : HostSeat) (asked : Asked) (turns : List Turn)
         (start end : World) (job : ℕ) (entry : Entry) →
-        Starts limit start → AreDisciplined bound turns → AllMayBeTold (steps_of job turns) →
+        Starts limits start → AreDisciplined bound turns → AllMayBeTold (steps_of job turns) →
         Belongs (grammar_for plan seat asked) (steps_of job turns) (finish.Answer (answer.Entry entry)) →
         ((parent : ℕ) × (name : List ℕ) × (name_asked asked ≡ Some (parent, name))
         × (Runs start turns end → IsEntered plan end (steps_of job turns) job parent name entry)) }
@@ -31,10 +31,10 @@ pub fn entry_opens()
 /// So it is of `create` that is answered with an entry and a handle: that is the object that it made, or it made
 /// nothing; and its handle is open on it.
 pub fn create_opens()
-    ensures { (limit bound : ℕ) (plan : Plan) (seat : HostSeat) (who : Context) (turns : List Turn)
+    ensures { (limits : List ℕ) (bound : ℕ) (plan : Plan) (seat : HostSeat) (who : Context) (turns : List Turn)
         (start end : World) (job parent : ℕ) (name : List ℕ) (mode : ℕ) (kill : Bool) (flags umask : ℕ)
         (ext : Extensions) (entry : Entry) (handle : ℕ) (options : OpenOptions) →
-        Starts limit start → AreDisciplined bound turns → Runs start turns end →
+        Starts limits start → AreDisciplined bound turns → Runs start turns end →
         Belongs (grammar_of plan seat who (request.Create parent name mode kill flags umask ext)) (steps_of job turns)
         (finish.Answer (answer.Created entry handle options)) →
         IsCreated plan end (steps_of job turns) job parent name entry handle }

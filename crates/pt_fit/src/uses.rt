@@ -19,9 +19,9 @@ ghost use Rattle.pt_fit.specs.Uses.{EndsBefore, IsOn};
 /// A request on a number that is gone is answered EBADF for as long as it is not inserted again, unless it gives up,
 /// loses its seat, or is an opening that could not drop its capability, and tells by which error.
 pub fn gone_number()
-    ensures { (limit job : ℕ) (plan : Plan) (seat : HostSeat) (who : Context) (what : Request)
+    ensures { (limits : List ℕ) (job : ℕ) (plan : Plan) (seat : HostSeat) (who : Context) (what : Request)
         (turns later : List Turn) (was now : Tables) (number : ℕ) (end : Finish) →
-        TablesRun (empty_tables limit) turns was → NoRow was (HasNumber number) → TablesRun was later now →
+        TablesRun (empty_tables limits) turns was → NoRow was (HasNumber number) → TablesRun was later now →
         inserted number later ≡ 0 → IsOn number what →
         Belongs (grammar_of plan seat who what) (steps_of job later) end →
         (end ≡ finish.Answer (answer.Refused ebadf)) ⊎ IsGivenUp end

@@ -22,19 +22,20 @@ use Rattle.pt_frame.specs.declared.hold.Hold.{Hold}
 use Rattle.pt_frame.specs.declared.hold.Taken.{Taken}
 use Rattle.pt_frame.specs.declared.hold.Taken.TheVariants as taken
 
-ends_slot : (P : Finish → Type 0) (slot : Bool) (count : ℕ) (holds : List Hold) (next : Grammar) → EndsSo P next →
-    EndsSo P (give_slot slot count holds next)
-ends_slot P true count holds next so [] end belongs = absurd belongs
-ends_slot P true count holds next so (step ∷ steps) end belongs = so steps end belongs.1
-ends_slot P false count holds next so steps end belongs = so steps end belongs
+ends_slot : (P : Finish → Type 0) (slot : Bool) (class count : ℕ) (holds : List Hold) (next : Grammar) → EndsSo P next →
+    EndsSo P (give_slot slot class count holds next)
+ends_slot P true class count holds next so [] end belongs = absurd belongs
+ends_slot P true class count holds next so (step ∷ steps) end belongs = so steps end belongs.1
+ends_slot P false class count holds next so steps end belongs = so steps end belongs
 
 ends_taken : (P : Finish → Type 0) (brings : Taken) (count : ℕ) (holds : List Hold) (next : Grammar) → EndsSo P next →
     EndsSo P (give_taken brings count holds next)
 ends_taken P taken.Nothing count holds next so steps end belongs = so steps end belongs
-ends_taken P taken.Slot count holds next so steps end belongs = ends_slot P true count holds next so steps end belongs
-ends_taken P (taken.Fd fd slot) count holds next so [] end belongs = absurd belongs
-ends_taken P (taken.Fd fd slot) count holds next so (step ∷ steps) end belongs =
-    ends_slot P slot count holds next so steps end belongs.1
+ends_taken P (taken.Slot class) count holds next so steps end belongs =
+    ends_slot P true class count holds next so steps end belongs
+ends_taken P (taken.Fd fd slot class) count holds next so [] end belongs = absurd belongs
+ends_taken P (taken.Fd fd slot class) count holds next so (step ∷ steps) end belongs =
+    ends_slot P slot class count holds next so steps end belongs.1
 
 pub ends_closings : (P : Finish → Type 0) (count : ℕ) (holds : List Hold) (next : Grammar) → EndsSo P next →
     EndsSo P (closings count holds next)
@@ -117,16 +118,16 @@ cut_chosen seat (Do deed owed next) chosen so_far steps end (inr x) b = absurd x
 
 -- one outcome unless memory runs out
 
-det_slot : (slot : Bool) (count : ℕ) (holds : List Hold) (next : Grammar) → IsDetermined next →
-    IsDetermined (give_slot slot count holds next)
-det_slot true count holds next so = λ reply. so
-det_slot false count holds next so = so
+det_slot : (slot : Bool) (class count : ℕ) (holds : List Hold) (next : Grammar) → IsDetermined next →
+    IsDetermined (give_slot slot class count holds next)
+det_slot true class count holds next so = λ reply. so
+det_slot false class count holds next so = so
 
 det_taken : (brings : Taken) (count : ℕ) (holds : List Hold) (next : Grammar) → IsDetermined next →
     IsDetermined (give_taken brings count holds next)
 det_taken taken.Nothing count holds next so = so
-det_taken taken.Slot count holds next so = λ reply. so
-det_taken (taken.Fd fd slot) count holds next so = λ reply. det_slot slot count holds next so
+det_taken (taken.Slot class) count holds next so = λ reply. so
+det_taken (taken.Fd fd slot class) count holds next so = λ reply. det_slot slot class count holds next so
 
 det_closings : (count : ℕ) (holds : List Hold) (next : Grammar) → IsDetermined next →
     IsDetermined (closings count holds next)

@@ -392,23 +392,23 @@ mode_stands seat (mode.Leave last) tree holds marks ready =
 -- what is owed at once aside
 pub over_now : (brings : Taken) (count : ℕ) (at : Mode) (holds : List Hold) → brings ≡ taken.Nothing → count ≤ 0 →
     is_all_over brings count at holds ≡ is_over at holds
-over_now (taken.Fd fd slot) count at holds b c = absurd (cc)
-over_now taken.Slot count at holds b c = absurd (cc)
+over_now (taken.Fd fd slot class) count at holds b c = absurd (cc)
+over_now (taken.Slot class) count at holds b c = absurd (cc)
 over_now taken.Nothing (suc count) at holds b c = absurd (omega (arith, c))
 over_now taken.Nothing zero at holds b c = refl
 
 pub left_now : (seat : HostSeat) (brings : Taken) (count : ℕ) (at : Mode) (tree : RequestTree) (holds : List Hold)
     (marks : List ℕ) → brings ≡ taken.Nothing → count ≤ 0 →
     left_of seat brings count at tree holds marks ≡ mode_left seat at tree holds marks
-left_now seat (taken.Fd fd slot) count at tree holds marks b c = absurd (cc)
-left_now seat taken.Slot count at tree holds marks b c = absurd (cc)
+left_now seat (taken.Fd fd slot class) count at tree holds marks b c = absurd (cc)
+left_now seat (taken.Slot class) count at tree holds marks b c = absurd (cc)
 left_now seat taken.Nothing (suc count) at tree holds marks b c = absurd (omega (arith, c))
 left_now seat taken.Nothing zero at tree holds marks b c = refl
 
 pub restoring_now : (brings : Taken) (count : ℕ) (at : Mode) (holds : List Hold) → brings ≡ taken.Nothing →
     count ≤ 0 → is_restoring_now brings count at holds ≡ is_giving_scope at holds
-restoring_now (taken.Fd fd slot) count at holds b c = absurd (cc)
-restoring_now taken.Slot count at holds b c = absurd (cc)
+restoring_now (taken.Fd fd slot class) count at holds b c = absurd (cc)
+restoring_now (taken.Slot class) count at holds b c = absurd (cc)
 restoring_now taken.Nothing (suc count) at holds b c = absurd (omega (arith, c))
 restoring_now taken.Nothing zero at holds b c = refl
 
@@ -416,8 +416,8 @@ restoring_now taken.Nothing zero at holds b c = refl
 pub end_over : (seat : HostSeat) (brings : Taken) (count : ℕ) (at : Mode) (tree : RequestTree) (holds : List Hold)
     (marks : List ℕ) → is_ready at holds marks ≡ true →
     is_end (left_of seat brings count at tree holds marks) ≡ is_all_over brings count at holds
-end_over seat (taken.Fd fd slot) count at tree holds marks ready = refl
-end_over seat taken.Slot count at tree holds marks ready = refl
+end_over seat (taken.Fd fd slot class) count at tree holds marks ready = refl
+end_over seat (taken.Slot class) count at tree holds marks ready = refl
 end_over seat taken.Nothing (suc count) at tree holds marks ready = refl
 end_over seat taken.Nothing zero at tree holds marks ready =
     (mode_stands seat at tree holds marks ready).over
@@ -426,8 +426,8 @@ end_over seat taken.Nothing zero at tree holds marks ready =
 pub stood : (seat : HostSeat) (brings : Taken) (count : ℕ) (at : Mode) (tree : RequestTree) (holds : List Hold)
     (marks : List ℕ) → is_ready at holds marks ≡ true → is_all_over brings count at holds ≡ false →
     IsDo (left_of seat brings count at tree holds marks)
-stood seat (taken.Fd fd slot) count at tree holds marks ready e = tt
-stood seat taken.Slot count at tree holds marks ready e = tt
+stood seat (taken.Fd fd slot class) count at tree holds marks ready e = tt
+stood seat (taken.Slot class) count at tree holds marks ready e = tt
 stood seat taken.Nothing (suc count) at tree holds marks ready e = tt
 stood seat taken.Nothing zero at tree holds marks ready e =
     (mode_stands seat at tree holds marks ready).going e
@@ -436,8 +436,8 @@ stood seat taken.Nothing zero at tree holds marks ready e =
 pub settles : (seat : HostSeat) (brings : Taken) (count : ℕ) (at : Mode) (tree : RequestTree) (holds : List Hold)
     (marks : List ℕ) → is_ready at holds marks ≡ true →
     IsSettled (left_of seat brings count at tree holds marks)
-settles seat (taken.Fd fd slot) count at tree holds marks ready = tt
-settles seat taken.Slot count at tree holds marks ready = tt
+settles seat (taken.Fd fd slot class) count at tree holds marks ready = tt
+settles seat (taken.Slot class) count at tree holds marks ready = tt
 settles seat taken.Nothing (suc count) at tree holds marks ready = tt
 settles seat taken.Nothing zero at tree holds marks ready =
     (mode_stands seat at tree holds marks ready).settled
@@ -446,8 +446,8 @@ settles seat taken.Nothing zero at tree holds marks ready =
 pub restores_so : (seat : HostSeat) (brings : Taken) (count : ℕ) (at : Mode) (tree : RequestTree) (holds : List Hold)
     (marks : List ℕ) → is_ready at holds marks ≡ true →
     restores (left_of seat brings count at tree holds marks) ≡ is_restoring_now brings count at holds
-restores_so seat (taken.Fd fd slot) count at tree holds marks ready = refl
-restores_so seat taken.Slot count at tree holds marks ready = refl
+restores_so seat (taken.Fd fd slot class) count at tree holds marks ready = refl
+restores_so seat (taken.Slot class) count at tree holds marks ready = refl
 restores_so seat taken.Nothing (suc count) at tree holds marks ready = refl
 restores_so seat taken.Nothing zero at tree holds marks ready =
     (mode_stands seat at tree holds marks ready).restoring
@@ -465,8 +465,8 @@ over_rests (mode.Leave last) (one ∷ rest) e = absurd (cc)
 
 pub restoring_goes : (brings : Taken) (count : ℕ) (at : Mode) (holds : List Hold) →
     is_restoring_now brings count at holds ≡ true → is_all_over brings count at holds ≡ false
-restoring_goes (taken.Fd fd slot) count at holds e = refl
-restoring_goes taken.Slot count at holds e = refl
+restoring_goes (taken.Fd fd slot class) count at holds e = refl
+restoring_goes (taken.Slot class) count at holds e = refl
 restoring_goes taken.Nothing (suc count) at holds e = refl
 restoring_goes taken.Nothing zero at holds e = go (is_over at holds) refl
   where
@@ -479,8 +479,8 @@ pub cut_left : (seat : HostSeat) (brings : Taken) (count : ℕ) (at : Mode) (tre
     (marks : List ℕ) → is_ready at holds marks ≡ true → is_all_over brings count at holds ≡ false →
     close_first brings count holds (leave seat holds (finish.Answer answer.Cut))
     ≡ cut seat (owed_by (left_of seat brings count at tree holds marks))
-cut_left seat (taken.Fd fd slot) count at tree holds marks ready e = refl
-cut_left seat taken.Slot count at tree holds marks ready e = refl
+cut_left seat (taken.Fd fd slot class) count at tree holds marks ready e = refl
+cut_left seat (taken.Slot class) count at tree holds marks ready e = refl
 cut_left seat taken.Nothing (suc count) at tree holds marks ready e = refl
 cut_left seat taken.Nothing zero at tree holds marks ready e =
     ap (cut seat) (sym ((mode_stands seat at tree holds marks ready).owes_all e))
@@ -489,8 +489,8 @@ cut_left seat taken.Nothing zero at tree holds marks ready e =
 pub ends_over : (seat : HostSeat) (brings : Taken) (count : ℕ) (at : Mode) (tree : RequestTree) (holds : List Hold)
     (marks : List ℕ) → is_ready at holds marks ≡ true → is_all_over brings count at holds ≡ true →
     left_of seat brings count at tree holds marks ≡ End (end_of at)
-ends_over seat (taken.Fd fd slot) count at tree holds marks ready e = absurd (cc)
-ends_over seat taken.Slot count at tree holds marks ready e = absurd (cc)
+ends_over seat (taken.Fd fd slot class) count at tree holds marks ready e = absurd (cc)
+ends_over seat (taken.Slot class) count at tree holds marks ready e = absurd (cc)
 ends_over seat taken.Nothing (suc count) at tree holds marks ready e = absurd (cc)
 ends_over seat taken.Nothing zero at tree holds marks ready e = (over_left seat at tree holds marks ready e).0
 
@@ -501,8 +501,8 @@ none_unless false lost e = e
 
 pub told_end : (brings : Taken) (count : ℕ) (at : Mode) (holds : List Hold) (lost : Option Errno) →
     is_all_over brings count at holds ≡ true → Tells at lost → IsTold (end_of at) lost
-told_end (taken.Fd fd slot) count at holds lost e t = absurd (cc)
-told_end taken.Slot count at holds lost e t = absurd (cc)
+told_end (taken.Fd fd slot class) count at holds lost e t = absurd (cc)
+told_end (taken.Slot class) count at holds lost e t = absurd (cc)
 told_end taken.Nothing (suc count) at holds lost e t = absurd (cc)
 told_end taken.Nothing zero mode.Body holds lost e t = absurd (cc)
 told_end taken.Nothing zero mode.Bares holds lost e t = absurd (cc)

@@ -24,7 +24,7 @@ gives_copied : (seat : HostSeat) (one : Hold) → KeepsGroups seat → is_scope 
 gives_copied seat (hold.Pin row fd) k e f = absurd (cc)
 gives_copied seat (hold.HandlePin row fd) k e f = absurd (cc)
 gives_copied seat (hold.Fd fd) k e f = absurd (cc)
-gives_copied seat hold.Slot k e f = absurd (cc)
+gives_copied seat (hold.Slot class) k e f = absurd (cc)
 gives_copied seat (hold.Count era number) k e f = absurd (cc)
 gives_copied seat hold.Groups k e f = k f
 gives_copied seat hold.EffectiveGid k e f = f

@@ -53,19 +53,20 @@ out_may : {C : Type 0} (one other : Grammar) → OutOr C one → OutOr C other �
 out_may one other so more steps end (inl b) out = so steps end b out
 out_may one other so more steps end (inr b) out = more steps end b out
 
-out_slot : {C : Type 0} (slot : Bool) (count : ℕ) (holds : List Hold) (rest : Grammar) → OutOr C rest →
-    OutOr C (give_slot slot count holds rest)
-out_slot true count holds rest so =
-    out_do (Changes change.GiveFd) (owing false taken.Slot count holds) (λ reply. rest) (λ reply. so)
-out_slot false count holds rest so = so
+out_slot : {C : Type 0} (slot : Bool) (class count : ℕ) (holds : List Hold) (rest : Grammar) → OutOr C rest →
+    OutOr C (give_slot slot class count holds rest)
+out_slot true class count holds rest so =
+    out_do (Changes (change.GiveFd class)) (owing false (taken.Slot class) count holds) (λ reply. rest) (λ reply. so)
+out_slot false class count holds rest so = so
 
 out_taken : {C : Type 0} (brings : Taken) (count : ℕ) (holds : List Hold) (rest : Grammar) → OutOr C rest →
     OutOr C (give_taken brings count holds rest)
 out_taken taken.Nothing count holds rest so = so
-out_taken taken.Slot count holds rest so = out_slot true count holds rest so
-out_taken (taken.Fd fd slot) count holds rest so =
-    out_do (Calls (call.Close fd)) (owing false (taken.Fd fd slot) count holds)
-    (λ reply. give_slot slot count holds rest) (λ reply. out_slot slot count holds rest so)
+out_taken (taken.Slot class) count holds rest so = out_slot true class count holds rest so
+out_taken (taken.Fd fd slot class) count holds rest so =
+    out_do (Calls (call.Close fd)) (owing false (taken.Fd fd slot class) count holds)
+    (λ reply. give_slot slot class count holds rest)
+    (λ reply. out_slot slot class count holds rest so)
 
 out_closings : {C : Type 0} (count : ℕ) (holds : List Hold) (rest : Grammar) → OutOr C rest →
     OutOr C (closings count holds rest)

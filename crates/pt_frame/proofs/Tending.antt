@@ -87,27 +87,27 @@ finish_after true (finish.Answer last) None (Some errno) f = rw f refl
 finish_after true (finish.Answer last) (Some first) (Some errno) f = rw f refl
 finish_after true (finish.Lost same) lost (Some errno) f = absurd f
 
-tended_slot : (seat : HostSeat) (was_cut slot : Bool) (count : ℕ) (holds : List Hold) (rest : Grammar)
+tended_slot : (seat : HostSeat) (was_cut slot : Bool) (class count : ℕ) (holds : List Hold) (rest : Grammar)
     (lost : Option Errno) → Wears seat holds [] → Tended seat was_cut rest (past_at [] lost) →
-    Tended seat was_cut (give_slot slot count holds rest) (past_at [] lost)
-tended_slot seat was_cut true count holds rest lost w s =
-    (refl, tt, rested lost (Changes change.GiveFd) [] refl (bare_of lost [] refl), w, refl, λ told. s)
-tended_slot seat was_cut false count holds rest lost w s = s
+    Tended seat was_cut (give_slot slot class count holds rest) (past_at [] lost)
+tended_slot seat was_cut true class count holds rest lost w s =
+    (refl, tt, rested lost (Changes (change.GiveFd class)) [] refl (bare_of lost [] refl), w, refl, λ told. s)
+tended_slot seat was_cut false class count holds rest lost w s = s
 
 tended_taken : (seat : HostSeat) (was_cut : Bool) (brings : Taken) (count : ℕ) (holds : List Hold) (rest : Grammar)
     (lost : Option Errno) → Wears seat holds [] → Tended seat was_cut rest (past_at [] lost) →
     Tended seat was_cut (give_taken brings count holds rest) (past_at [] lost)
 tended_taken seat was_cut taken.Nothing count holds rest lost w s = s
-tended_taken seat was_cut taken.Slot count holds rest lost w s =
-    tended_slot seat was_cut true count holds rest lost w s
-tended_taken seat was_cut (taken.Fd fd slot) count holds rest lost w s = (
+tended_taken seat was_cut (taken.Slot class) count holds rest lost w s =
+    tended_slot seat was_cut true class count holds rest lost w s
+tended_taken seat was_cut (taken.Fd fd slot class) count holds rest lost w s = (
   refl,
   tt,
   rested lost (Calls (call.Close fd)) [] refl (bare_of lost [] refl),
   w,
   refl,
   λ told.
-      tended_slot seat was_cut slot count holds rest lost w s,
+      tended_slot seat was_cut slot class count holds rest lost w s,
 )
 
 closing_bare : (count : ℕ) → ClosesBare taken.Nothing count []
@@ -181,7 +181,7 @@ plain_giving : (seat : HostSeat) (one : Hold) → is_scope one ≡ false → is_
 plain_giving seat (hold.Pin row fd) e = refl
 plain_giving seat (hold.HandlePin row fd) e = refl
 plain_giving seat (hold.Fd fd) e = refl
-plain_giving seat hold.Slot e = refl
+plain_giving seat (hold.Slot class) e = refl
 plain_giving seat (hold.Count era number) e = refl
 plain_giving seat hold.Groups e = absurd (cc)
 plain_giving seat hold.EffectiveGid e = absurd (cc)
@@ -383,15 +383,15 @@ cut_first : (seat : HostSeat) (brings : Taken) (count : ℕ) (holds : List Hold)
     Tended seat true (close_first brings count holds rest) (past_at worn None)
 cut_first seat taken.Nothing count holds rest worn c w s =
     tended_closings seat true count holds rest worn None c w s
-cut_first seat taken.Slot count holds rest worn c w s =
+cut_first seat (taken.Slot class) count holds rest worn c w s =
     subst (λ (x : List Call). Wears seat holds x → Tended seat true rest (past_at x None) →
-    Tended seat true (close_first taken.Slot count holds rest) (past_at x None)) (sym c)
-    (λ w' s'. tended_taken seat true taken.Slot count holds (closings count holds rest) None w'
+    Tended seat true (close_first (taken.Slot class) count holds rest) (past_at x None)) (sym c)
+    (λ w' s'. tended_taken seat true (taken.Slot class) count holds (closings count holds rest) None w'
     (tended_bare_closings seat true count holds rest None w' s')) w s
-cut_first seat (taken.Fd fd slot) count holds rest worn c w s =
+cut_first seat (taken.Fd fd slot class) count holds rest worn c w s =
     subst (λ (x : List Call). Wears seat holds x → Tended seat true rest (past_at x None) →
-    Tended seat true (close_first (taken.Fd fd slot) count holds rest) (past_at x None)) (sym c)
-    (λ w' s'. tended_taken seat true (taken.Fd fd slot) count holds (closings count holds rest) None w'
+    Tended seat true (close_first (taken.Fd fd slot class) count holds rest) (past_at x None)) (sym c)
+    (λ w' s'. tended_taken seat true (taken.Fd fd slot class) count holds (closings count holds rest) None w'
     (tended_bare_closings seat true count holds rest None w' s')) w s
 
 pub tended_cut : (seat : HostSeat) (grammar : Grammar) (worn : List Call) → IsDo grammar →

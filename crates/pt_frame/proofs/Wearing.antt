@@ -1,5 +1,5 @@
 -- What is worn of the seat lies in the scopes that are held, and what changes other holds leaves them on top.
-use Rattle.std.proofs.Common.{◌≡◌, ◌≤◌, Bool, true, false, List, [], ◌∷◌}
+use Rattle.std.proofs.Common.{◌≡◌, ◌≤◌, ℕ, Bool, true, false, List, [], ◌∷◌}
 use Rattle.std.proofs.Common.{length}
 use Rattle.std.proofs.Common.{Option, Some, None, refl, ap, sym, ◌∙◌, subst, cond, arith}
 use Rattle.pt_host.specs.Call.{Call}
@@ -124,7 +124,7 @@ fd_bare : (one : Hold) → is_some_fd (fd_in one) ≡ true → is_scope one ≡ 
 fd_bare (hold.Pin row fd) e = refl
 fd_bare (hold.HandlePin row fd) e = refl
 fd_bare (hold.Fd fd) e = refl
-fd_bare hold.Slot e = refl
+fd_bare (hold.Slot class) e = refl
 fd_bare (hold.Count era number) e = refl
 fd_bare hold.Groups e = absurd (cc)
 fd_bare hold.EffectiveGid e = absurd (cc)
@@ -156,13 +156,13 @@ wears_closed seat fd (one ∷ holds) worn w =
     found_or seat one holds holds (closed fd holds) worn (is_same_fd fd (fd_in one))
     (same_bare fd one) (λ c e. c) (λ rest r. wears_closed seat fd holds rest r) w
 
-pub wears_slotted : (seat : HostSeat) (holds : List Hold) (worn : List Call) → Wears seat holds worn →
-    Wears seat (slotted holds) worn
-wears_slotted seat [] worn w = wears_at seat (hold.Slot ∷ []) worn w (refl, refl)
-wears_slotted seat (one ∷ holds) worn w =
-    found_or seat one holds (one ∷ hold.Slot ∷ holds) (slotted holds) worn (is_some_fd (fd_in one))
-    (fd_bare one) (λ c e. clear_cons seat one (hold.Slot ∷ holds) e (refl, c))
-    (λ rest r. wears_slotted seat holds rest r) w
+pub wears_slotted : (seat : HostSeat) (class : ℕ) (holds : List Hold) (worn : List Call) → Wears seat holds worn →
+    Wears seat (slotted class holds) worn
+wears_slotted seat class [] worn w = wears_at seat (hold.Slot class ∷ []) worn w (refl, refl)
+wears_slotted seat class (one ∷ holds) worn w =
+    found_or seat one holds (one ∷ hold.Slot class ∷ holds) (slotted class holds) worn (is_some_fd (fd_in one))
+    (fd_bare one) (λ c e. clear_cons seat one (hold.Slot class ∷ holds) e (refl, c))
+    (λ rest r. wears_slotted seat class holds rest r) w
 
 clear_unslotted : (seat : HostSeat) (holds : List Hold) → Clear seat holds → Clear seat (unslotted holds)
 clear_unslotted seat [] c = c
@@ -201,7 +201,7 @@ wears_changed seat (change.Resolve number) (event.Resolved resolved) holds worn 
     wears_laid seat (hold.Pin resolved.row (row_fd resolved.form)) holds worn refl w
 wears_changed seat (change.Claim claim) (event.Claimed given) holds worn w =
     wears_laid seat (hold.Count claim.era given.number) holds worn refl w
-wears_changed seat change.TakeFd event.Taken holds worn w = wears_slotted seat holds worn w
+wears_changed seat (change.TakeFd class) event.Taken holds worn w = wears_slotted seat class holds worn w
 wears_changed seat (change.Insert new) (event.Inserted given) holds worn w =
     wears_laid seat (hold.Count new.era given) (handed_of (row_fd new.form) holds) worn refl
     (wears_handed_of seat (row_fd new.form) holds worn w)

@@ -24,7 +24,7 @@ abbrev pub giving : HostSeat → Hold → Deed
 giving seat (hold.Pin row fd) = Changes (change.Unpin row)
 giving seat (hold.HandlePin row fd) = Changes (change.UnpinHandle row)
 giving seat (hold.Fd fd) = Calls (call.Close fd)
-giving seat hold.Slot = Changes change.GiveFd
+giving seat (hold.Slot class) = Changes (change.GiveFd class)
 giving seat (hold.Count era number) = Changes (change.GiveBack era number)
 giving seat hold.Groups = Calls (call.SetGroups seat.groups)
 giving seat hold.EffectiveGid = Calls (call.SetEgid seat.eff_gid)
@@ -33,15 +33,17 @@ giving seat (hold.Dropped caps) = Calls (call.RaiseCap caps)
 giving seat hold.Umask = Calls (call.SetUmask seat.umask)
 
 -- what a closing brought is given back, while so many more are owed
-abbrev pub give_slot : Bool → ℕ → List Hold → Grammar → Grammar
-give_slot true count holds rest = Do (Changes change.GiveFd) (owing false taken.Slot count holds) (λ told. rest)
-give_slot false count holds rest = rest
+abbrev pub give_slot : Bool → ℕ → ℕ → List Hold → Grammar → Grammar
+give_slot true class count holds rest =
+    Do (Changes (change.GiveFd class)) (owing false (taken.Slot class) count holds) (λ told. rest)
+give_slot false class count holds rest = rest
 
 abbrev pub give_taken : Taken → ℕ → List Hold → Grammar → Grammar
 give_taken taken.Nothing count holds rest = rest
-give_taken taken.Slot count holds rest = give_slot true count holds rest
-give_taken (taken.Fd fd slot) count holds rest =
-    Do (Calls (call.Close fd)) (owing false (taken.Fd fd slot) count holds) (λ told. give_slot slot count holds rest)
+give_taken (taken.Slot class) count holds rest = give_slot true class count holds rest
+give_taken (taken.Fd fd slot class) count holds rest =
+    Do (Calls (call.Close fd)) (owing false (taken.Fd fd slot class) count holds) (λ told.
+    give_slot slot class count holds rest)
 
 -- the closings of an event follow it at once, and these holds stay; where none is there to take, nothing is given
 -- back

@@ -1,6 +1,6 @@
 -- Believed. What a job holds, as its deeds and their replies say: pins, descriptors, slots, counts, and the scopes in
 -- which its seat is changed. Holds are searched by what they are.
-use Rattle.std.specs.Prelude.{◌==◌, Bool, true, false, if◌then◌else◌, List, [], ◌∷◌, Option, Some, None}
+use Rattle.std.specs.Prelude.{◌==◌, ℕ, Bool, true, false, if◌then◌else◌, List, [], ◌∷◌, Option, Some, None}
 use Rattle.pt_host.specs.Sorts.{Sort, OpensWith, EndsFd, OfSeat, Plain, sort_of}
 use Rattle.pt_host.specs.declared.ids.Fd.{Fd}
 use Rattle.pt_host.specs.declared.reply.HostReply.TheVariants as host
@@ -26,7 +26,7 @@ abbrev pub is_scope : Hold → Bool
 is_scope (hold.Pin row fd) = false
 is_scope (hold.HandlePin row fd) = false
 is_scope (hold.Fd fd) = false
-is_scope hold.Slot = false
+is_scope (hold.Slot class) = false
 is_scope (hold.Count era number) = false
 is_scope hold.Groups = true
 is_scope hold.EffectiveGid = true
@@ -44,7 +44,7 @@ abbrev pub fd_in : Hold → Option Fd
 fd_in (hold.Pin row fd) = None
 fd_in (hold.HandlePin row fd) = None
 fd_in (hold.Fd fd) = Some fd
-fd_in hold.Slot = None
+fd_in (hold.Slot class) = None
 fd_in (hold.Count era number) = None
 fd_in hold.Groups = None
 fd_in hold.EffectiveGid = None
@@ -61,7 +61,7 @@ is_same_fd fd None = false
 is_same_fd fd (Some same) = same.0 == fd.0
 
 abbrev pub is_slot : Hold → Bool
-is_slot hold.Slot = true
+is_slot (hold.Slot class) = true
 is_slot one = false
 
 -- this descriptor is held no more
@@ -69,10 +69,11 @@ abbrev pub closed : Fd → List Hold → List Hold
 closed fd [] = []
 closed fd (one ∷ holds) = if is_same_fd fd (fd_in one) then holds else one ∷ closed fd holds
 
--- the newest descriptor gets a slot, which lies under it
-abbrev pub slotted : List Hold → List Hold
-slotted [] = hold.Slot ∷ []
-slotted (one ∷ holds) = if is_some_fd (fd_in one) then one ∷ hold.Slot ∷ holds else one ∷ slotted holds
+-- the newest descriptor gets a slot of this class, which lies under it
+abbrev pub slotted : ℕ → List Hold → List Hold
+slotted class [] = hold.Slot class ∷ []
+slotted class (one ∷ holds) =
+    if is_some_fd (fd_in one) then one ∷ hold.Slot class ∷ holds else one ∷ slotted class holds
 
 abbrev pub unslotted : List Hold → List Hold
 unslotted [] = []
@@ -105,9 +106,9 @@ held_changed (change.Resolve number) told holds = holds
 held_changed (change.Unpin row) told holds = holds
 held_changed (change.Claim claim) (event.Claimed given) holds = laid (hold.Count claim.era given.number) holds
 held_changed (change.Claim claim) told holds = holds
-held_changed change.TakeFd event.Taken holds = slotted holds
-held_changed change.TakeFd told holds = holds
-held_changed change.GiveFd told holds = holds
+held_changed (change.TakeFd class) event.Taken holds = slotted class holds
+held_changed (change.TakeFd class) told holds = holds
+held_changed (change.GiveFd class) told holds = holds
 held_changed change.DrawNode told holds = holds
 held_changed (change.Insert new) (event.Inserted given) holds =
     laid (hold.Count new.era given) (handed_of (row_fd new.form) holds)

@@ -77,8 +77,8 @@ put_by change.Clear told = 0
 put_by change.Begin told = 0
 put_by (change.Resolve number) told = 0
 put_by (change.Claim claim) told = 0
-put_by change.TakeFd told = 0
-put_by change.GiveFd told = 0
+put_by (change.TakeFd class) told = 0
+put_by (change.GiveFd class) told = 0
 put_by change.DrawNode told = 0
 put_by (change.Insert new) told = 0
 put_by (change.InsertRoot new) told = 0
@@ -106,8 +106,8 @@ added_by change.Begin told = 0
 added_by (change.Resolve number) told = 0
 added_by (change.Unpin row) told = 0
 added_by (change.Claim claim) told = 0
-added_by change.TakeFd told = 0
-added_by change.GiveFd told = 0
+added_by (change.TakeFd class) told = 0
+added_by (change.GiveFd class) told = 0
 added_by change.DrawNode told = 0
 added_by (change.Forget list) told = 0
 added_by (change.GiveBack era number) told = 0
@@ -127,15 +127,15 @@ inserted_by (Changes asked) NoCopy = 0
 
 -- what a closing brings, to be given back at once
 abbrev pub taken_in : ActReply → Taken
-taken_in (Event (event.Closing first)) = taken.Fd first.fd first.slot
+taken_in (Event (event.Closing first)) = taken.Fd first.fd first.slot first.class
 taken_in _ = taken.Nothing
 
 -- how many slots are to be given back of it
 abbrev pub slots_in : Taken → ℕ
 slots_in taken.Nothing = 0
-slots_in taken.Slot = 1
-slots_in (taken.Fd fd true) = 1
-slots_in (taken.Fd fd false) = 0
+slots_in (taken.Slot class) = 1
+slots_in (taken.Fd fd true class) = 1
+slots_in (taken.Fd fd false class) = 0
 
 -- an event, but for a closing that is taken
 abbrev pub events_in : Deed → ℕ
@@ -152,9 +152,9 @@ slots_told (Calls asked) reply = 0
 -- the same as holds
 abbrev pub brought : Taken → List Hold
 brought taken.Nothing = []
-brought taken.Slot = hold.Slot ∷ []
-brought (taken.Fd fd true) = hold.Fd fd ∷ hold.Slot ∷ []
-brought (taken.Fd fd false) = hold.Fd fd ∷ []
+brought (taken.Slot class) = hold.Slot class ∷ []
+brought (taken.Fd fd true class) = hold.Fd fd ∷ hold.Slot class ∷ []
+brought (taken.Fd fd false class) = hold.Fd fd ∷ []
 
 abbrev pub is_cut : Answer → Bool
 is_cut answer.Cut = true

@@ -64,8 +64,8 @@ IsRested (Some errno) false deed worn = (is_of_seat deed ≡ false) × (worn ≡
 abbrev pub ClosesBare : Taken → ℕ → List Call → Type 0
 ClosesBare taken.Nothing zero worn = Unit {0}
 ClosesBare taken.Nothing (suc count) worn = worn ≡ []
-ClosesBare taken.Slot count worn = worn ≡ []
-ClosesBare (taken.Fd fd slot) count worn = worn ≡ []
+ClosesBare (taken.Slot class) count worn = worn ≡ []
+ClosesBare (taken.Fd fd slot class) count worn = worn ≡ []
 
 -- of a grammar, after what the job's steps so far did to its seat
 abbrev pub Tended : HostSeat → Bool → Grammar → Past → Type 0

@@ -18,8 +18,8 @@ pub enum Hold {
     HandlePin { row: u64, fd: Fd },
     /// A descriptor.
     Fd(Fd),
-    /// A slot, which goes with the descriptor that lies on it.
-    Slot,
+    /// A slot of this class, which goes with the descriptor that lies on it.
+    Slot { class: u32 },
     /// A number that was given once and is not yet answered.
     Count { era: u64, number: u64 },
     Groups,
@@ -32,7 +32,7 @@ pub enum Hold {
 
 impl Default for Hold {
     fn default() -> Self {
-        Hold::Slot
+        Hold::Slot { class: 0 }
     }
 }
 
@@ -40,9 +40,9 @@ impl Default for Hold {
 #[derive(Clone, Copy)]
 pub enum Taken {
     Nothing,
-    Slot,
-    /// A descriptor, and whether a slot goes back with it.
-    Fd { fd: Fd, slot: bool },
+    Slot { class: u32 },
+    /// A descriptor, and whether a slot of its class goes back with it.
+    Fd { fd: Fd, slot: bool, class: u32 },
 }
 
 /// What a job has to give back, the last one first.

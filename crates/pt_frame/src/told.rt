@@ -144,9 +144,8 @@ fn event_may(event: &Event<'_>) -> Brings
     ensures { result ≡ change_brings (change_of event.now) }
 {
     match event {
-        Event::Resolve { .. } | Event::Claim(_) | Event::TakeFd | Event::PinHandle { .. } => {
-            Brings::Hold
-        }
+        Event::Resolve { .. } | Event::Claim(_) | Event::TakeFd { .. } | Event::PinHandle { .. } =>
+            { Brings::Hold }
         Event::Insert(_) => Brings::RowAndHold,
         Event::InsertRoot(_) | Event::InsertHandle(_) => Brings::Row,
         _ => Brings::Nothing,

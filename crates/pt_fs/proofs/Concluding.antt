@@ -23,7 +23,7 @@ use Rattle.pt_fs.proofs.Whole.{Came, each_seated, ran_of, runs_jobs, seats_back}
 pub is_run : {H : Type 0} {does : HostRelation H} {plan : Plan} {jobs : List Job} {trace : List TraceStep}
     {answers : List Answer} {host host' : H} {tables tables' : Tables} {running' : List Running} →
     Came does plan jobs trace answers host tables host' running' tables' → (tree : H → Option Tree) (faults : H → ℕ) →
-    Promises does faults → Tells does tree → ((limit : ℕ) × (tables ≡ empty_tables limit)) → StartAll jobs →
+    Promises does faults → Tells does tree → ((limits : List ℕ) × (tables ≡ empty_tables limits)) → StartAll jobs →
     CapsFit jobs → (left : List HostSeat) → left ≡ seated (map run_seat running') → IsBounded jobs trace →
     length trace ≤ room_of jobs →
     IsRun does plan jobs host (tree host) tables trace answers host' (tree host') left tables'
@@ -33,8 +33,8 @@ is_run {does = does} {plan = plan} {jobs = jobs} {trace = trace} {answers = answ
     let steps = runs_jobs came left ends in
     let back = seats_back came faults p starts fits left ends in
     let sat = each_seated came faults p starts fits in
-    let kept = keeps does faults p plan tables.limit jobs host tables trace answers host' tables' ran in
-    let told = keeps_told does tree faults p tells plan tables.limit jobs host tables trace answers host' tables' ran in
+    let kept = keeps does faults p plan tables.limits jobs host tables trace answers host' tables' ran in
+    let told = keeps_told does tree faults p tells plan tables.limits jobs host tables trace answers host' tables' ran in
     record {
       steps = steps;
       seats_back = back;

@@ -188,7 +188,7 @@ comes_ran_out plan job steps told t (inr stops) is = let no : answer.Cut ≡ ans
     absurd (cc)
 
 -- a trace, and what is known of it
-pub record Ran {H : Type 0} (does : HostRelation H) (plan : Plan) (limit : ℕ) (jobs : List Job) (host : H)
+pub record Ran {H : Type 0} (does : HostRelation H) (plan : Plan) (limits : List ℕ) (jobs : List Job) (host : H)
     (tables : Tables)
     (trace : List TraceStep) (answers : List Answer) (host' : H) (tables' : Tables) : Type 0 where
   pub seats : List (Option HostSeat)
@@ -197,7 +197,7 @@ pub record Ran {H : Type 0} (does : HostRelation H) (plan : Plan) (limit : ℕ) 
   pub one_each : length seats ≡ length jobs
   pub answered : length answers ≡ length jobs
   pub comes : OfEachJob jobs answers (λ j job told. Comes plan job (steps_by j trace) told)
-  pub begins : tables ≡ empty_tables limit
+  pub begins : tables ≡ empty_tables limits
 
 -- the job of a number, and its answer
 some_job : (jobs : List Job) (answers : List Answer) (P : ℕ → Job → Answer → Type 0) →
@@ -209,10 +209,10 @@ some_job jobs answers P same each j below =
     (job.0, told.0, each j job.0 told.0 job.1 told.1)
 
 pub ended_of : {H : Type 0} (does : HostRelation H) (faults : H → ℕ) → Promises does faults →
-    (plan : Plan) (limit : ℕ) (jobs : List Job) (host : H) (tables : Tables) (trace : List TraceStep)
+    (plan : Plan) (limits : List ℕ) (jobs : List Job) (host : H) (tables : Tables) (trace : List TraceStep)
     (answers : List Answer) (host' : H) (tables' : Tables) →
-    Ran does plan limit jobs host tables trace answers host' tables' → AreEnded (length jobs) (turns_of trace)
-ended_of does faults p plan limit jobs host tables trace answers host' tables' ran = record {
+    Ran does plan limits jobs host tables trace answers host' tables' → AreEnded (length jobs) (turns_of trace)
+ended_of does faults p plan limits jobs host tables trace answers host' tables' ran = record {
   owners = owners_below does
       (length jobs) trace host ran.seats tables host' ran.seats' tables' ran.one_each ran.runs;
   jobs = λ j below.
@@ -235,7 +235,7 @@ cut_at bound trace so_far rest e d =
     subst (λ (turns : List Turn). AreDisciplined bound turns) (ap turns_of e ∙ turns-append so_far rest) d
 
 -- the laws that speak of no object, over any host
-pub record KeepsTables (plan : Plan) (limit : ℕ) (jobs : List Job) (tables : Tables) (trace : List TraceStep)
+pub record KeepsTables (plan : Plan) (limits : List ℕ) (jobs : List Job) (tables : Tables) (trace : List TraceStep)
     (answers : List Answer)
     (tables' : Tables) : Type 0 where
   pub counts : AfterEach tables trace KeepsCounts
@@ -248,8 +248,8 @@ pub record KeepsTables (plan : Plan) (limit : ℕ) (jobs : List Job) (tables : T
   pub honoured : HonoursEach trace
   pub reached : ReachesEach tables trace tables'
   pub agree : AfterEach tables trace (λ so_far now. Agree now)
-  pub slots : AfterEach tables trace (SlotsAddUp limit (length jobs))
-  pub rest : IsAtRest limit (length jobs) (turns_of trace) tables'
+  pub slots : AfterEach tables trace (SlotsAddUp limits (length jobs))
+  pub rest : IsAtRest limits (length jobs) (turns_of trace) tables'
   pub gives_back : OfEachJob jobs answers (GivesAllBack trace)
   pub causes : OfEachJob jobs answers (IsCausedIn plan trace)
   pub memory : OfEachJob jobs answers (RanOutIn trace)
@@ -283,13 +283,13 @@ finishes_of plan jobs trace answers same comes may j below =
     (comes_to_end plan it.0 (steps_by j trace) it.1 (may j) it.2.1))
 
 pub keeps : {H : Type 0} (does : HostRelation H) (faults : H → ℕ) → Promises does faults →
-    (plan : Plan) (limit : ℕ) (jobs : List Job) (host : H) (tables : Tables) (trace : List TraceStep)
+    (plan : Plan) (limits : List ℕ) (jobs : List Job) (host : H) (tables : Tables) (trace : List TraceStep)
     (answers : List Answer) (host' : H) (tables' : Tables) →
-    Ran does plan limit jobs host tables trace answers host' tables' →
-    KeepsTables plan limit jobs tables trace answers tables'
-keeps does faults p plan limit jobs host tables trace answers host' tables' ran =
+    Ran does plan limits jobs host tables trace answers host' tables' →
+    KeepsTables plan limits jobs tables trace answers tables'
+keeps does faults p plan limits jobs host tables trace answers host' tables' ran =
     let runs = host_runs does trace host ran.seats tables host' ran.seats' tables' ran.runs in
-    let ended = ended_of does faults p plan limit jobs host tables trace answers host' tables' ran in
+    let ended = ended_of does faults p plan limits jobs host tables trace answers host' tables' ran in
     let disciplined = ended_jobs (length jobs) (turns_of trace) ended in
     let begins = ran.begins in
     let from_empty = λ (turns : List Turn) (now : Tables) (r : TablesRun tables turns now). subst (λ (t : Tables).
@@ -298,23 +298,23 @@ keeps does faults p plan limit jobs host tables trace answers host' tables' ran 
     (hosts_tables does (turns_of trace) host tables host' tables' runs) in
     let owners = owners_below does
     (length jobs) trace host ran.seats tables host' ran.seats' tables' ran.one_each ran.runs in
-    let rest = rest_law limit (length jobs) (turns_of trace) tables' ended whole in
+    let rest = rest_law limits (length jobs) (turns_of trace) tables' ended whole in
     let told = λ (j : ℕ).
     subst AllMayBeTold (steps_same j trace)
     (hosts_told does faults p j (turns_of trace) host tables host' tables' runs) in
     record {
       counts = λ so_far rest now e r number.
-          counts_law limit (turns_of so_far) now number (from_empty (turns_of so_far) now r);
+          counts_law limits (turns_of so_far) now number (from_empty (turns_of so_far) now r);
       polite = λ p.
           let comes = finishes_of plan jobs trace answers ran.answered ran.comes told in (
-            polite_counts limit (length jobs) (finish_at answers) (turns_of trace) tables' owners comes p whole,
-            polite_gives_back limit (length jobs) (finish_at answers) (turns_of trace) tables' owners comes p whole,
+            polite_counts limits (length jobs) (finish_at answers) (turns_of trace) tables' owners comes p whole,
+            polite_gives_back limits (length jobs) (finish_at answers) (turns_of trace) tables' owners comes p whole,
           );
       handles = λ so_far rest now e r handle.
-          standing_law limit (turns_of so_far) now handle (from_empty (turns_of so_far) now r);
+          standing_law limits (turns_of so_far) now handle (from_empty (turns_of so_far) now r);
       options = λ so_far rest now e r.
           let parts = ap turns_of e ∙ turns-append so_far rest in
-          agreed_law limit (length jobs) (decided_by plan jobs) (turns_of so_far) (turns_of rest) now
+          agreed_law limits (length jobs) (decided_by plan jobs) (turns_of so_far) (turns_of rest) now
           (λ j below. subst (λ (turns : List Turn). BeginsFirst (steps_of j turns)) parts
           (first_of plan jobs trace answers ran.answered ran.comes j below))
           (λ j below. subst (λ (turns : List Turn). Decides (decided_by plan jobs j) (steps_of j turns)) parts
@@ -324,50 +324,51 @@ keeps does faults p plan limit jobs host tables trace answers host' tables' ran 
           let all = subst (λ (turns : List Turn).
           AreDisciplined (length jobs) turns) (sym (append-nil (turns_of trace))) disciplined in
           record {
-            numbers = λ number other. once_law limit (length jobs) (turns_of trace) [] tables' number all whole other;
-            handles = λ handle. handles_once_law limit (length jobs) (turns_of trace) [] tables' handle all whole;
+            numbers = λ number other. once_law limits (length jobs) (turns_of trace) [] tables' number all whole other;
+            handles = λ handle. handles_once_law limits (length jobs) (turns_of trace) [] tables' handle all whole;
           };
       overtaken = λ so_far rest step e told.
-          let run = subst (λ (turns : List Turn). TablesRun (empty_tables limit) turns tables') (ap turns_of e
+          let run = subst (λ (turns : List Turn). TablesRun (empty_tables limits) turns tables') (ap turns_of e
           ∙ turns-append so_far (step ∷ rest)) whole in
-          let cut = tables_split (turns_of so_far) (turn_of step ∷ turns_of rest) (empty_tables limit) tables' run in
-          overtaken_law limit (length jobs) (turns_of so_far) (turn_of step) (turns_of rest) cut.0 cut.2.0
+          let cut = tables_split (turns_of so_far) (turn_of step ∷ turns_of rest) (empty_tables limits) tables' run in
+          overtaken_law limits (length jobs) (turns_of so_far) (turn_of step) (turns_of rest) cut.0 cut.2.0
           (cut_at (length jobs) trace so_far (step ∷ rest) e disciplined) cut.1 cut.2.1 told;
       slots = λ so_far rest now e r.
-          slots_law limit (length jobs) (turns_of so_far) (turns_of rest) now
+          slots_law limits (length jobs) (turns_of so_far) (turns_of rest) now
           (cut_at (length jobs) trace so_far rest e disciplined) (from_empty (turns_of so_far) now r);
       rest = rest;
       shut_out = λ so_far rest step e taken given.
-          let run = subst (λ (turns : List Turn). TablesRun (empty_tables limit) turns tables') (ap turns_of e
+          let run = subst (λ (turns : List Turn). TablesRun (empty_tables limits) turns tables') (ap turns_of e
           ∙ turns-append so_far (step ∷ rest)) whole in
-          let cut = tables_split (turns_of so_far) (turn_of step ∷ turns_of rest) (empty_tables limit) tables' run in
+          let cut = tables_split (turns_of so_far) (turn_of step ∷ turns_of rest) (empty_tables limits) tables' run in
           let d = cut_at (length jobs) trace so_far (step ∷ rest) e disciplined in
           let first = first_of plan jobs trace answers ran.answered ran.comes step.job
           (owner_of (length jobs) (turns_of so_far) (turn_of step) (turns_of rest) d.owners) in
-          shut_out_law limit (length jobs) (turns_of so_far) (turn_of step) (turns_of rest) cut.0 cut.2.0
+          shut_out_law limits (length jobs) (turns_of so_far) (turn_of step) (turns_of rest) cut.0 cut.2.0
           (subst (λ (turns : List Turn). BeginsFirst (steps_of step.job turns)) (ap turns_of e
           ∙ turns-append so_far (step ∷ rest)) first) d cut.1 cut.2.1 taken given;
       honoured = λ so_far rest step e.
-          let run = subst (λ (turns : List Turn). TablesRun (empty_tables limit) turns tables') (ap turns_of e
+          let run = subst (λ (turns : List Turn). TablesRun (empty_tables limits) turns tables') (ap turns_of e
           ∙ turns-append so_far (step ∷ rest)) whole in
-          let cut = tables_split (turns_of so_far) (turn_of step ∷ turns_of rest) (empty_tables limit) tables' run in
-          honoured_law limit (length jobs) (turns_of so_far) (turn_of step) (turns_of rest) cut.0 cut.2.0
+          let cut = tables_split (turns_of so_far) (turn_of step ∷ turns_of rest) (empty_tables limits) tables' run in
+          honoured_law limits (length jobs) (turns_of so_far) (turn_of step) (turns_of rest) cut.0 cut.2.0
           (cut_at (length jobs) trace so_far (step ∷ rest) e disciplined) cut.1 cut.2.1;
       reached = λ so_far rest e.
           tables_split (turns_of so_far) (turns_of rest) tables tables'
           (subst (λ (turns : List Turn). TablesRun tables turns tables') (ap turns_of e ∙ turns-append so_far rest)
           (hosts_tables does (turns_of trace) host tables host' tables' runs));
-      agree = λ so_far rest now e r. agree_law limit (turns_of so_far) now (from_empty (turns_of so_far) now r);
+      agree = λ so_far rest now e r. agree_law limits (turns_of so_far) now (from_empty (turns_of so_far) now r);
       gives_back = λ j job answer at told_at.
           let ends = comes_to_end plan job (steps_by j trace) answer (told j) (ran.comes j job answer at told_at) in
           let below = slice_get_within jobs j job at in
           record {
             settled = all_settled (steps_by j trace) (finish.Answer answer) ends;
             handle = comes_keeping plan job (steps_by j trace) answer (told j) (ran.comes j job answer at told_at);
-            slots = subst (λ (steps : List Step). slots_taken steps ≡ slots_given steps) (steps_same j trace)
-                (let none = rest.carried j below in
-                let most = (slots_law limit (length jobs) (turns_of trace) [] tables'
-                (rw append-nil disciplined) whole).taken j below in
+            slots = λ class. subst (λ (steps : List Step). slots_taken class steps ≡ slots_given class steps)
+                (steps_same j trace)
+                (let none = rest.carried class j below in
+                let most = (slots_law limits (length jobs) (turns_of trace) [] tables'
+                (rw append-nil disciplined) whole).taken class j below in
                 omega (arith, none, most));
           };
       causes = λ j job answer at told_at.

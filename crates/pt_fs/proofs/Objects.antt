@@ -94,34 +94,35 @@ no_entry plan turns j parent name entry era agreed front own back u e l =
     absurd (no_call turns j (begin ∷ first) anew (more ++ back) u all)
 
 -- the world in which a run begins is a new one
-abbrev IsNew : ℕ → World → Type 0
-IsNew limit start =
-    (start.tables ≡ empty_tables limit) × (start.past ≡ no_past) × (start.story ≡ no_story)
+abbrev IsNew : List ℕ → World → Type 0
+IsNew limits start =
+    (start.tables ≡ empty_tables limits) × (start.past ≡ no_past) × (start.story ≡ no_story)
 
-starts_by : (limit : ℕ) (start : World) → IsNew limit start → IsWellFormed start.tree → Starts limit start
-starts_by limit start n well = record { tables = n.0; well_formed = well; past = n.1; story = n.2 }
+starts_by : (limits : List ℕ) (start : World) → IsNew limits start → IsWellFormed start.tree → Starts limits start
+starts_by limits start n well = record { tables = n.0; well_formed = well; past = n.1; story = n.2 }
 
 -- an entry names what its name led to
-entered_from : (limit : ℕ) (plan : Plan) (jobs : List Job) (start end : World) (turns : List Turn) (j : ℕ)
-    (asked : Asked) (entry : Entry) (by : EntryBy plan asked entry (steps_of j turns)) → IsNew limit start →
+entered_from : (limits : List ℕ) (plan : Plan) (jobs : List Job) (start end : World) (turns : List Turn) (j : ℕ)
+    (asked : Asked) (entry : Entry) (by : EntryBy plan asked entry (steps_of j turns)) → IsNew limits start →
     AreUncalled turns ⊎ IsWellFormed start.tree → AreDisciplined (length jobs) turns → WorldRuns start turns end →
     IsEntered plan end (steps_of j turns) j by.parent by.name entry
-entered_from limit plan jobs start end turns j asked entry by new known disciplined r = elim known [
+entered_from limits plan jobs start end turns j asked entry by new known disciplined r = elim known [
   | inl u ↦ absurd (no_entry plan turns j by.parent by.name entry by.era by.agreed by.front by.own by.back u by.all
       by.by)
-  | inr well ↦ entered_law limit (length jobs) plan turns start end j by.parent by.name entry by.era by.agreed by.front
-      by.own by.back (starts_by limit start new well) disciplined r by.all by.by by.quiet
+  | inr well ↦ entered_law limits (length jobs) plan turns start end j by.parent by.name entry by.era by.agreed by.front
+      by.own by.back (starts_by limits start new well) disciplined r by.all by.by by.quiet
 ]
 
 -- and which file a created one is
-file_from : (limit : ℕ) (plan : Plan) (jobs : List Job) (start end : World) (turns : List Turn) (j : ℕ) (job : Job)
+file_from : (limits : List ℕ) (plan : Plan) (jobs : List Job) (start end : World) (turns : List Turn) (j : ℕ)
+    (job : Job)
     (who : Context) (parent : ℕ) (name : List ℕ) (mode : ℕ) (kill : Bool) (flags umask : ℕ) (ext : Extensions)
-    (entry : Entry) (handle : ℕ) (options : OpenOptions) → IsNew limit start →
+    (entry : Entry) (handle : ℕ) (options : OpenOptions) → IsNew limits start →
     AreUncalled turns ⊎ IsWellFormed start.tree → AreDisciplined (length jobs) turns → WorldRuns start turns end →
     asked_of job ≡ Requests who (request.Create parent name mode kill flags umask ext) →
     Belongs (job_grammar plan job) (steps_of j turns) (finish.Answer (answer.Created entry handle options)) →
     IsCreated plan end (steps_of j turns) j parent name entry handle
-file_from limit plan jobs start end turns j job who parent name mode kill flags umask ext entry handle options new
+file_from limits plan jobs start end turns j job who parent name mode kill flags umask ext entry handle options new
     known disciplined r asked b =
     let made : Belongs (grammar_of plan (job_start job) who (request.Create parent name mode kill flags umask ext))
     (steps_of j turns) (finish.Answer (answer.Created entry handle options)) =
@@ -133,28 +134,28 @@ file_from limit plan jobs start end turns j job who parent name mode kill flags 
           (steps_of j turns) made in
           absurd (no_entry plan turns j parent name entry c.era c.agreed (resolving parent c.resolved ∷ c.before) c.own
           c.back u c.all c.looked_up)
-      | inr well ↦ file_law limit (length jobs) plan (job_start job) who turns start end j parent name mode kill flags
-          umask ext entry handle options (starts_by limit start new well) disciplined r made
+      | inr well ↦ file_law limits (length jobs) plan (job_start job) who turns start end j parent name mode kill flags
+          umask ext entry handle options (starts_by limits start new well) disciplined r made
     ]
 
-entered_by : (limit : ℕ) (plan : Plan) (jobs : List Job) (told : Option Tree) (tables : Tables)
-    (trace : List TraceStep) → tables ≡ empty_tables limit → AreDisciplined (length jobs) (turns_of trace) →
+entered_by : (limits : List ℕ) (plan : Plan) (jobs : List Job) (told : Option Tree) (tables : Tables)
+    (trace : List TraceStep) → tables ≡ empty_tables limits → AreDisciplined (length jobs) (turns_of trace) →
     ((tree : Tree) → told ≡ Some tree → AreUncalled (turns_of trace) ⊎ IsWellFormed tree) →
     (j : ℕ) (job : Job) (given : Answer) → AllMayBeTold (steps_of j (turns_of trace)) →
     Comes plan job (steps_of j (turns_of trace)) given → IsNamedIn plan told tables trace j job given
-entered_by limit plan jobs told tables trace begins disciplined known j job (answer.Entry entry) may (inl b) =
+entered_by limits plan jobs told tables trace begins disciplined known j job (answer.Entry entry) may (inl b) =
     let by = entry_asked plan (job_start job) (asked_of job) (steps_of j (turns_of trace)) entry may b in (
       by.parent,
       by.name,
       by.names,
       (λ tree is end r.
           subst (λ (steps : List Step). IsEntered plan end steps j by.parent by.name entry) (steps_same j trace)
-          (entered_from limit plan jobs (begins_in tree tables) end (turns_of trace) j (asked_of job) entry by
+          (entered_from limits plan jobs (begins_in tree tables) end (turns_of trace) j (asked_of job) entry by
           (begins, refl, refl) (known tree is) disciplined r)),
     )
-entered_by limit plan jobs told tables trace begins disciplined known j job (answer.Entry entry) may (inr stops) =
+entered_by limits plan jobs told tables trace begins disciplined known j job (answer.Entry entry) may (inr stops) =
     let no : answer.Entry entry ≡ answer.Cut = stops.0 in absurd (cc)
-entered_by limit plan jobs told tables trace begins disciplined known j job (answer.Created entry handle options) may
+entered_by limits plan jobs told tables trace begins disciplined known j job (answer.Created entry handle options) may
     (inl b) =
     let named = created_asked plan (job_start job) (asked_of job) (steps_of j (turns_of trace)) entry handle options may
     b in (
@@ -163,13 +164,13 @@ entered_by limit plan jobs told tables trace begins disciplined known j job (ans
       ap name_asked named.8,
       (λ tree is end r.
           subst (λ (steps : List Step). IsCreated plan end steps j named.1 named.2 entry handle) (steps_same j trace)
-          (file_from limit plan jobs (begins_in tree tables) end (turns_of trace) j job named.0 named.1 named.2 named.3
+          (file_from limits plan jobs (begins_in tree tables) end (turns_of trace) j job named.0 named.1 named.2 named.3
           named.4 named.5 named.6 named.7 entry handle options (begins, refl, refl) (known tree is) disciplined r named.8
           b)),
     )
-entered_by limit plan jobs told tables trace begins disciplined known j job (answer.Created entry handle options) may
+entered_by limits plan jobs told tables trace begins disciplined known j job (answer.Created entry handle options) may
     (inr stops) = let no : answer.Created entry handle options ≡ answer.Cut = stops.0 in absurd (cc)
-entered_by limit plan jobs told tables trace begins disciplined known j job given may b = tt
+entered_by limits plan jobs told tables trace begins disciplined known j job given may b = tt
 
 -- where there is no row, none has an object
 unobjected : (now : World) → ((row : Row) → IsRow now.tables row → ⊥) → KeepsObjects now
@@ -179,8 +180,8 @@ unobjected now none = record {
 }
 
 -- what holds in the world in which the run begins, after the steps so far and the world to which they led
-module _ (limit bound : ℕ) (start now : World) (trace so_far rest : List TraceStep)
-    (new : IsNew limit start)
+module _ (limits : List ℕ) (bound : ℕ) (start now : World) (trace so_far rest : List TraceStep)
+    (new : IsNew limits start)
     (known : AreUncalled (turns_of trace) ⊎ IsWellFormed start.tree) (e : trace ≡ so_far ++ rest)
     (d : AreDisciplined bound (turns_of trace)) (r : WorldRuns start (turns_of so_far) now) where
   d_cut : AreDisciplined bound (turns_of so_far ++ turns_of rest)
@@ -190,69 +191,69 @@ module _ (limit bound : ℕ) (start now : World) (trace so_far rest : List Trace
   quiet u = uncalled_front (turns_of so_far) (turns_of rest)
       (subst AreUncalled (ap turns_of e ∙ turns-append so_far rest) u)
 
-  starts : IsWellFormed start.tree → Starts limit start
-  starts well = starts_by limit start new well
+  starts : IsWellFormed start.tree → Starts limits start
+  starts well = starts_by limits start new well
 
   pub objects_kept : KeepsObjects now
   objects_kept = elim known [
     | inl u ↦ unobjected now
-        (no_rows limit bound (turns_of so_far) (turns_of rest) start now new.0 (quiet u) r d_cut)
+        (no_rows limits bound (turns_of so_far) (turns_of rest) start now new.0 (quiet u) r d_cut)
     | inr well ↦ record {
-      distinct = distinct_law limit bound (turns_of so_far) (turns_of rest) start now (starts well) d_cut r;
+      distinct = distinct_law limits bound (turns_of so_far) (turns_of rest) start now (starts well) d_cut r;
       open_on = λ row at.
-          object_law limit bound (turns_of so_far) (turns_of rest) start now row (starts well) d_cut r at;
+          object_law limits bound (turns_of so_far) (turns_of rest) start now row (starts well) d_cut r at;
     }
   ]
 
   pub each_served : ServesEach now
   each_served row at = elim known [
     | inl u ↦ absurd
-        (no_handles limit bound (turns_of so_far) (turns_of rest) start now new.0 (quiet u) r d_cut row at)
-    | inr well ↦ handles_law limit bound (turns_of so_far) (turns_of rest) start now row (starts well) d_cut r at
+        (no_handles limits bound (turns_of so_far) (turns_of rest) start now new.0 (quiet u) r d_cut row at)
+    | inr well ↦ handles_law limits bound (turns_of so_far) (turns_of rest) start now row (starts well) d_cut r at
   ]
 
   pub all_reopened : ReopensResolved (turns_of so_far) now
   all_reopened = elim known [
     | inl u ↦ none_anew (turns_of so_far) now (quiet u)
-    | inr well ↦ reopened_law limit bound (turns_of so_far) (turns_of rest) start now (starts well) d_cut r
+    | inr well ↦ reopened_law limits bound (turns_of so_far) (turns_of rest) start now (starts well) d_cut r
   ]
 
   pub all_kept : AreKept start bound (turns_of so_far) now
   all_kept = elim known [
-    | inl u ↦ keeps_none limit bound (turns_of so_far) (turns_of rest) start now new.0 (quiet u) r d_cut
-    | inr well ↦ kept_law limit bound (turns_of so_far) (turns_of rest) start now (starts well) d_cut r
+    | inl u ↦ keeps_none limits bound (turns_of so_far) (turns_of rest) start now new.0 (quiet u) r d_cut
+    | inr well ↦ kept_law limits bound (turns_of so_far) (turns_of rest) start now (starts well) d_cut r
   ]
 
   pub named_before : ComeFromNames now
   named_before = elim known [
     | inl u ↦ λ number object is.
         absurd (no_objects (turns_of so_far) start now new.1 (quiet u) r number object is)
-    | inr well ↦ origins_law limit bound (turns_of so_far) (turns_of rest) start now (starts well) d_cut r
+    | inr well ↦ origins_law limits bound (turns_of so_far) (turns_of rest) start now (starts well) d_cut r
   ]
 
 -- each call names only open descriptors
-names_from : (limit bound : ℕ) (start now : World) (trace so_far : List TraceStep) (step : TraceStep)
-    (rest : List TraceStep) → IsNew limit start →
+names_from : (limits : List ℕ) (bound : ℕ) (start now : World) (trace so_far : List TraceStep) (step : TraceStep)
+    (rest : List TraceStep) → IsNew limits start →
     AreUncalled (turns_of trace) ⊎ IsWellFormed start.tree → trace ≡ so_far ++ step ∷ rest →
     AreDisciplined bound (turns_of trace) → WorldRuns start (turns_of so_far) now →
     NamesOpen now.tree (kept_deed_of step.act)
-names_from limit bound start now trace so_far step rest new known e d r = elim known [
+names_from limits bound start now trace so_far step rest new known e d r = elim known [
   | inl u ↦ names_none now.tree (kept_deed_of step.act)
       (uncalled_at (turns_of so_far) (turn_of step) (turns_of rest)
       (subst AreUncalled (ap turns_of e ∙ turns-append so_far (step ∷ rest)) u)).0
-  | inr well ↦ named_law limit bound (turns_of so_far) (turn_of step) (turns_of rest) start now
-      (starts_by limit start new well)
+  | inr well ↦ named_law limits bound (turns_of so_far) (turn_of step) (turns_of rest) start now
+      (starts_by limits start new well)
       (cut_at bound trace so_far (step ∷ rest) e d) r
 ]
 
 -- two entries of one object have one number
-agree_from : (limit bound : ℕ) (trace so_far between rest : List TraceStep) (start first second : World)
-    (job number another object : ℕ) → IsNew limit start → AreUncalled (turns_of trace) ⊎ IsWellFormed start.tree →
+agree_from : (limits : List ℕ) (bound : ℕ) (trace so_far between rest : List TraceStep) (start first second : World)
+    (job number another object : ℕ) → IsNew limits start → AreUncalled (turns_of trace) ⊎ IsWellFormed start.tree →
     AreDisciplined bound (turns_of trace) → trace ≡ (so_far ++ between) ++ rest →
     WorldRuns start (turns_of so_far) first → WorldRuns first (turns_of between) second →
     StaysLive first (turns_of between) number → WasGiven (turns_of so_far ++ turns_of between) job another →
     ObjectOf first number object → ObjectOf second another object → another ≡ number
-agree_from limit bound trace so_far between rest start first second job number another object new known d e r k live
+agree_from limits bound trace so_far between rest start first second job number another object new known d e r k live
     gave is has =
     let turns : turns_of trace ≡ (turns_of so_far ++ turns_of between) ++ turns_of rest =
     ap turns_of e ∙ turns-append (so_far ++ between) rest
@@ -262,19 +263,19 @@ agree_from limit bound trace so_far between rest start first second job number a
           let front = uncalled_front (turns_of so_far) (turns_of between)
           (uncalled_front (turns_of so_far ++ turns_of between) (turns_of rest) (subst AreUncalled turns u)) in
           absurd (no_objects (turns_of so_far) start first new.1 front r number object is)
-      | inr well ↦ two_lookups_law limit bound (turns_of so_far) (turns_of between) (turns_of rest) start first second
-          job number another object (starts_by limit start new well) (subst (AreDisciplined bound) turns d) r k live
+      | inr well ↦ two_lookups_law limits bound (turns_of so_far) (turns_of between) (turns_of rest) start first second
+          job number another object (starts_by limits start new well) (subst (AreDisciplined bound) turns d) r k live
           gave is has
     ]
 
 pub keeps_told : {H : Type 0} (does : HostRelation H) (tree : H → Option Tree) (faults : H → ℕ) → Promises does faults →
-    Tells does tree → (plan : Plan) (limit : ℕ) (jobs : List Job) (host : H) (tables : Tables)
+    Tells does tree → (plan : Plan) (limits : List ℕ) (jobs : List Job) (host : H) (tables : Tables)
     (trace : List TraceStep) (answers : List Answer) (host' : H) (tables' : Tables) →
-    Ran does plan limit jobs host tables trace answers host' tables' →
+    Ran does plan limits jobs host tables trace answers host' tables' →
     KeepsTold plan jobs (tree host) tables trace answers (tree host') tables'
-keeps_told does tree faults p tells plan limit jobs host tables trace answers host' tables' ran =
+keeps_told does tree faults p tells plan limits jobs host tables trace answers host' tables' ran =
     let runs = host_runs does trace host ran.seats tables host' ran.seats' tables' ran.runs in
-    let ended = ended_of does faults p plan limit jobs host tables trace answers host' tables' ran in
+    let ended = ended_of does faults p plan limits jobs host tables trace answers host' tables' ran in
     let disciplined = ended_jobs (length jobs) (turns_of trace) ended in
     let bound = length jobs in
     let world = λ (t : Tree) (is : tree host ≡ Some t).
@@ -294,13 +295,13 @@ keeps_told does tree faults p tells plan limit jobs host tables trace answers ho
                 (ap turns_of e ∙ turns-append so_far rest) w.3)),
           );
       two_lookups = λ t is so_far between rest first second job number another object e r k live gave at has.
-          agree_from limit bound trace so_far between rest (begins_in t tables) first second job number another object
+          agree_from limits bound trace so_far between rest (begins_in t tables) first second job number another object
           (ran.begins, refl, refl) (known t is) disciplined e r k live gave at has;
       origins = λ t is so_far rest now e r.
-          named_before limit bound (begins_in t tables) now trace so_far rest (ran.begins, refl, refl) (known t is) e
+          named_before limits bound (begins_in t tables) now trace so_far rest (ran.begins, refl, refl) (known t is) e
           disciplined r;
       plain = λ ends found t is end r.
-          served_plainly plan limit jobs trace answers (begins_in t tables) end
+          served_plainly plan limits jobs trace answers (begins_in t tables) end
           (record { tables = ran.begins; past = refl; story = refl }) disciplined
           (λ j job given at told_at.
           let b = belongs_by plan job (steps_by j trace) given
@@ -311,27 +312,28 @@ keeps_told does tree faults p tells plan limit jobs host tables trace answers ho
             b,
           )) ends found r;
       distinct = λ t is so_far rest now e r.
-          objects_kept limit bound (begins_in t tables) now trace so_far rest (ran.begins, refl, refl) (known t is) e
+          objects_kept limits bound (begins_in t tables) now trace so_far rest (ran.begins, refl, refl) (known t is) e
           disciplined r;
       serves = λ t is so_far rest now e r.
-          each_served limit bound (begins_in t tables) now trace so_far rest (ran.begins, refl, refl) (known t is) e
+          each_served limits bound (begins_in t tables) now trace so_far rest (ran.begins, refl, refl) (known t is) e
           disciplined r;
       reopens = λ t is so_far rest now e r.
-          all_reopened limit bound (begins_in t tables) now trace so_far rest (ran.begins, refl, refl) (known t is) e
+          all_reopened limits bound (begins_in t tables) now trace so_far rest (ran.begins, refl, refl) (known t is) e
           disciplined r;
       descriptors = λ t is so_far rest now e r.
-          all_kept limit bound (begins_in t tables) now trace so_far rest (ran.begins, refl, refl) (known t is) e
+          all_kept limits bound (begins_in t tables) now trace so_far rest (ran.begins, refl, refl) (known t is) e
           disciplined r;
       named = λ t is so_far rest step now e r.
-          names_from limit bound (begins_in t tables) now trace so_far step rest (ran.begins, refl, refl) (known t is) e
+          names_from limits bound (begins_in t tables) now trace so_far step rest (ran.begins, refl, refl)
+          (known t is) e
           disciplined r;
       leaves = λ t is end r. elim (known t is) [
-        | inl u ↦ leaves_none limit bound (turns_of trace) (begins_in t tables) end ran.begins u r ended
-        | inr well ↦ leaves_law limit bound (turns_of trace) (begins_in t tables) end
-            (starts_by limit (begins_in t tables) (ran.begins, refl, refl) well) ended r
+        | inl u ↦ leaves_none limits bound (turns_of trace) (begins_in t tables) end ran.begins u r ended
+        | inr well ↦ leaves_law limits bound (turns_of trace) (begins_in t tables) end
+            (starts_by limits (begins_in t tables) (ran.begins, refl, refl) well) ended r
       ];
       entries = λ j job given at told_at.
-          entered_by limit plan jobs (tree host) tables trace ran.begins disciplined known j job given
+          entered_by limits plan jobs (tree host) tables trace ran.begins disciplined known j job given
           (hosts_told does faults p j (turns_of trace) host tables host' tables' runs)
           (rw (steps_same j trace) (ran.comes j job given at told_at));
     }

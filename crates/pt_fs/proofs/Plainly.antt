@@ -124,13 +124,13 @@ told_found (first ∷ answers) zero told found at is = let same = same_Some firs
     found.0 (same ∙ is)
 told_found (first ∷ answers) (suc i) told found at is = told_found answers i told found.1 at is
 
-pub served_plainly : (plan : Plan) (limit : ℕ) (jobs : List Job) (trace : List TraceStep) (answers : List Answer)
-    (start end : World) → IsNew limit start → AreDisciplined (length jobs) (turns_of trace) →
+pub served_plainly : (plan : Plan) (limits : List ℕ) (jobs : List Job) (trace : List TraceStep) (answers : List Answer)
+    (start end : World) → IsNew limits start → AreDisciplined (length jobs) (turns_of trace) →
     OfEachJob jobs answers (λ j job told. ComesToEnd idle (steps_by j trace) (finish.Answer told)
     × Belongs (job_grammar plan job) (steps_by j trace) (finish.Answer told)) →
     EndsWhole plan jobs [] trace answers → FoundMemory trace answers → WorldRuns start (turns_of trace) end →
     (after : PlainTree) × ServesAll plan (map asked_of jobs) answers (plain_start start.tree) after × EndsAs end after
-served_plainly plan limit jobs trace answers start end new disciplined comes ends found r =
+served_plainly plan limits jobs trace answers start end new disciplined comes ends found r =
     let turns = turns_of trace in
     let plain = plain_jobs 0 turns jobs answers in
     let are = in_job_order plan jobs trace answers ends in
@@ -143,7 +143,7 @@ served_plainly plan limit jobs trace answers start end new disciplined comes end
       memory = own_found i trace found.replies;
       given = told_found answers i told found.answered told_at;
     }))) in
-    let ran = plain_run plan limit (length jobs) plain start end new
+    let ran = plain_run plan limits (length jobs) plain start end new
     (subst (AreDisciplined (length jobs)) are disciplined) each (subst (λ (t : List Turn). WorldRuns start t end) are r)
     in
     let asked = asked_same 0 turns jobs answers ends.answers_each.one_each in

@@ -127,7 +127,7 @@ scope_copied : (seat : HostSeat) (one : Hold) → KeepsGroups seat → is_scope 
 scope_copied seat (hold.Pin row fd) k e f = absurd (cc)
 scope_copied seat (hold.HandlePin row fd) k e f = absurd (cc)
 scope_copied seat (hold.Fd fd) k e f = absurd (cc)
-scope_copied seat hold.Slot k e f = absurd (cc)
+scope_copied seat (hold.Slot class) k e f = absurd (cc)
 scope_copied seat (hold.Count era number) k e f = absurd (cc)
 scope_copied seat hold.Groups k e f = k f
 scope_copied seat hold.EffectiveGid k e f = f

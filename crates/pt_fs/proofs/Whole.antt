@@ -134,8 +134,8 @@ module _ {H : Type 0} {does : HostRelation H} {plan : Plan} {jobs : List Job} {t
       job told.0 seat (starts_as j job at) (each_at jobs starts j job at) (fits j job at) (may_be_told faults p j)
       (came.comes j job told.0 at told.1) has
 
-  pub ran_of : ((limit : ℕ) × (tables ≡ empty_tables limit)) →
-      Ran does plan tables.limit jobs h tables trace answers h' tables'
+  pub ran_of : ((limits : List ℕ) × (tables ≡ empty_tables limits)) →
+      Ran does plan tables.limits jobs h tables trace answers h' tables'
   ran_of new = record {
     seats = map job_seat jobs;
     seats' = map run_seat running';
@@ -143,7 +143,7 @@ module _ {H : Type 0} {does : HostRelation H} {plan : Plan} {jobs : List Job} {t
     one_each = length-map jobs job_seat;
     answered = came.answered;
     comes = came.comes;
-    begins = new.1 ∙ ap empty_tables (sym (ap (λ (t : Tables). t.limit) new.1));
+    begins = new.1 ∙ ap empty_tables (sym (ap (λ (t : Tables). t.limits) new.1));
   }
 
 -- Of one that lost no seat: from the jobs that were started to those that have finished.

@@ -146,7 +146,7 @@ OfEachJob jobs answers P =
 -- descriptors, slots; it took the closings that it was told of; and a handle that it inserted its answer has.
 pub record GivesAllBack (trace : List TraceStep) (j : ℕ) (job : Job) (told : Answer) : Type 0 where
   pub settled : HasSettled (steps_by j trace) (finish.Answer told)
-  pub slots : slots_taken (steps_by j trace) ≡ slots_given (steps_by j trace)
+  pub slots : (class : ℕ) → slots_taken class (steps_by j trace) ≡ slots_given class (steps_by j trace)
   pub handle : KeepsHandle (steps_by j trace) told
 
 -- a refusal has its cause, in what was asked or at a step of the job; an edit is refused exactly where its step was

@@ -78,10 +78,11 @@ pub record IsRun
   -- number and no handle.
   pub overtaken : OvertakenAsTold trace
   pub shut_out : ShutsOut trace
-  -- After every step slots left, those of rows and closings, and those that jobs carry are the limit; at the end
+  -- Of each class, after every step slots left, those of rows and closings, and those that jobs carry are the limit;
+  -- at the end
   -- nothing is pinned or carried.
-  pub slots : AfterEach tables trace (SlotsAddUp tables.limit (length jobs))
-  pub at_rest : IsAtRest tables.limit (length jobs) (turns_of trace) tables'
+  pub slots : AfterEach tables trace (SlotsAddUp tables.limits (length jobs))
+  pub at_rest : IsAtRest tables.limits (length jobs) (turns_of trace) tables'
   -- Where the host tells its tree: the steps lead that tree to the one told at the end, and after every step live
   -- numbers that differ have objects that differ, and each row, also one that died while it is pinned, has an open
   -- descriptor of the object for which it was inserted, which is its number's while it is live.

@@ -1,4 +1,4 @@
-ghost use Rattle.std.specs.Prelude.{◌≡◌, ◌⊎◌, IfOk, IfErr, OnOk, OnErr};
+ghost use Rattle.std.specs.Prelude.{◌≡◌, ◌⊎◌, [], ◌∷◌, IfOk, IfErr, OnOk, OnErr};
 ghost use Rattle.pt_host.specs.declared.reply.HostReply.{HostReply};
 ghost use Rattle.pt_maps.specs.Refusal.{AreAccepted};
 ghost use Rattle.pt_tables.specs.Tables.{empty_tables};
@@ -23,7 +23,7 @@ use pt_iface::{Context, Refusal, Request};
 use pt_job::AnyJob;
 use pt_maps::{IdMap, IdRules, MapError, XattrMap};
 use pt_req::{Config, Plan};
-use pt_session::{Event, EventReply, Session};
+use pt_session::{Event, EventReply, Session, one_limit};
 use std::alloc::Global;
 use std::marker::Model;
 use std::mem;
@@ -128,15 +128,15 @@ impl PassthroughFs {
         ensures call { (AreMapped cfg × ((reply : HostReply) × H.does host.old seat.old opens_root reply host.new
             seat.new × IsMadeBy reply result)) ⊎ (IsUnmapped cfg result × (host.new ≡ host.old)) }
         ensures plan { IfOk result (λ fs. IsPlanned cfg fs.plan) }
-        ensures tables { IfOk result (λ fs. fs.tables ≡ empty_tables cfg.guest_fd_limit) }
+        ensures tables { IfOk result (λ fs. fs.tables ≡ empty_tables (cfg.guest_fd_limit ∷ [])) }
         ensures seat { seat.new ≡ seat.old }
         ensures opened { IfOk result (λ fs. OpensOne (H.tree host.old) fs.root (H.tree host.new)) }
         ensures nothing_opened { OnErr result (StaysTold (H.tree host.old) (H.tree host.new)) }
     {
-        let fd_limit = cfg.guest_fd_limit;
+        let limits = one_limit(cfg.guest_fd_limit);
         let plan = mapped(alloc, cfg)?;
         let root = open_root(host, seat)?;
-        let session = Session::new(alloc, fd_limit);
+        let session = Session::new(alloc, limits);
         Ok(PassthroughFs {
             plan,
             session,

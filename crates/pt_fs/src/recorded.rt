@@ -1,6 +1,6 @@
 //! A run whose steps are written down as they are made.
 
-ghost use Rattle.std.specs.Prelude.{◌≡◌, ◌<◌, ◌^◌, ℕ, length, map};
+ghost use Rattle.std.specs.Prelude.{◌≡◌, ◌<◌, ◌^◌, ℕ, List, length, map};
 ghost use Rattle.pt_tables.specs.Tables.{empty_tables};
 ghost use Rattle.pt_fs.specs.Each.{EachAnswered};
 ghost use Rattle.pt_fs.specs.Ends.{RunEndsSo};
@@ -21,7 +21,7 @@ use crate::schedule::run_jobs;
 use crate::shared::Run;
 use pt_host::{Errno, Host, HostSeat};
 use pt_iface::Answer;
-use pt_session::Session;
+use pt_session::{Session, one_limit};
 use std::alloc::Global;
 
 /// What a run leaves, its steps aside: the file system, the answer of each job, and its seat, which an edit has not.
@@ -57,7 +57,7 @@ pub fn drive_into<H: Host, F: SteppedFs, R: Record>(
     writer: &mut R,
 ) -> Result<Left<F>, DriveIntoError<F>>
     requires few { length jobs.items < 2 ^ 32 }
-    requires new { (limit : ℕ) × (F.tables fs ≡ empty_tables limit) }
+    requires new { (limits : List ℕ) × (F.tables fs ≡ empty_tables limits) }
     requires seats { StartAll jobs.items }
 
     // However the run ended, the steps that were written down are its trace, of which each clause of a run holds:
@@ -94,7 +94,7 @@ pub fn drive_into<H: Host, F: SteppedFs, R: Record>(
         Err(_) => return Err(DriveIntoError::Memory(fs)),
     };
     // The run has the tables for itself, and the configuration lies still beside them.
-    let mut session = fs.replace_session(Session::new(alloc, 0));
+    let mut session = fs.replace_session(Session::new(alloc, one_limit(0)));
     let mut run = Run {
         alloc,
         plan: fs.plan(),

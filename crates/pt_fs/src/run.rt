@@ -1,4 +1,4 @@
-ghost use Rattle.std.specs.Prelude.{◌≤◌, vec_capacity, ◌≡◌, ◌<◌, ◌^◌, ℕ, [], length, IfOk};
+ghost use Rattle.std.specs.Prelude.{◌≤◌, vec_capacity, ◌≡◌, ◌<◌, ◌^◌, ℕ, List, [], length, IfOk};
 ghost use Rattle.pt_tables.specs.Tables.{empty_tables};
 ghost use Rattle.pt_fs.specs.Ends.{EndsWhole, LosesSeat, OnDriven, OnLost, OnMemory};
 ghost use Rattle.pt_fs.specs.Jobs.{StartAll};
@@ -46,7 +46,7 @@ pub fn drive<H: Host, F: SteppedFs>(
     schedule: &[u32],
 ) -> Result<Driven<F>, DriveError<F>>
     requires few { length jobs.items < 2 ^ 32 }
-    requires new { (limit : ℕ) × (F.tables fs ≡ empty_tables limit) }
+    requires new { (limits : List ℕ) × (F.tables fs ≡ empty_tables limits) }
     requires seats { StartAll jobs.items }
 
     // However the run ended, each clause of a run holds of what is returned: where the trace leads, each job's

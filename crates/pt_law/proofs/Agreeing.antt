@@ -50,8 +50,8 @@ kept_by t (change.Resolve number) (event.Resolved resolved) after h n = ap optio
 kept_by t (change.Unpin serial) (event.Done closings) after h n = unpins options_of no_rows t serial closings after h
 kept_by t (change.Claim claim) (event.Claimed given) after h n = ap options_of h.1.4.2
 kept_by t (change.Claim claim) event.Absent after h n = ap options_of h.2
-kept_by t change.TakeFd event.Taken after h n = ap options_of h.2
-kept_by t change.GiveFd event.Given after h n = ap options_of h.1
+kept_by t (change.TakeFd class) event.Taken after h n = ap options_of h.2
+kept_by t (change.GiveFd class) event.Given after h n = ap options_of h.1
 kept_by t change.DrawNode (event.Drawn number) after h n = ap options_of h.2
 kept_by t (change.Insert new) (event.Inserted given) after h n = ap options_of h.4
 kept_by t (change.Insert new) (event.Found given) after h n = ap options_of h.1.4.2
@@ -134,7 +134,7 @@ none_some said e = absurd (cc)
 
 -- Where a job that decides something inserts its root, the session is the one that it began.
 module _
-    (limit bound : ℕ)
+    (limits : List ℕ) (bound : ℕ)
     (decided : ℕ → Option Negotiated)
     (turns : List Turn)
     (turn : Turn)
@@ -143,7 +143,7 @@ module _
     (begins : BeginsFirst (steps_of turn.job (turns ++ turn ∷ more)))
     (decides : Decides (decided turn.job) (steps_of turn.job (turns ++ turn ∷ more)))
     (a : AreDisciplined bound (turns ++ turn ∷ more))
-    (r : TablesRun (empty_tables limit) turns now)
+    (r : TablesRun (empty_tables limits) turns now)
     (g : TablesGo now turn.step.deed turn.step.reply next)
     (given : TellsGiven turn.step.deed turn.step.reply)
     (said : Negotiated)
@@ -174,8 +174,8 @@ module _
         subst (Begins (decided j)) all decides.begins in
         let d = subst (λ z. Disciplined idle z own.0) e own.1.0 in
         let l = located j turns [] first rest e in
-        let c = tables_split l.0 (turn_by j first ∷ l.1) (empty_tables limit) now
-        (subst (λ z. TablesRun (empty_tables limit) z now) l.2 r) in
+        let c = tables_split l.0 (turn_by j first ∷ l.1) (empty_tables limits) now
+        (subst (λ z. TablesRun (empty_tables limits) z now) l.2 r) in
         let noted = noted_steps d.0 own.0 rest c.2.0.era d.2
         (begun_era c.0 c.2.0 idle d.0 first.deed first.reply begun c.2.1 d.1) in
         let same : c.2.0.era ≡ now.era = some_same (sym noted ∙ asked_in) in
@@ -220,12 +220,12 @@ agrees decided job session t after (Some (Changes change.Clear)) (Event (event.C
     ap options_of (cases t after change.Clear (event.Cleared era closings) g).1.7
 agrees decided job session t after (Some (Changes (change.InsertRoot new))) (Event (event.Inserted given)) g says k e =
     ap options_of (cases t after (change.InsertRoot new) (event.Inserted given) g).4
-    ∙ root_agrees new.negotiated decided job session (with_row t (new_row t 1 new.form new.ids new.mode 2)) e says
+    ∙ root_agrees new.negotiated decided job session (with_row t (new_row t 1 new.form new.ids new.mode 0 2)) e says
     (k tt)
 agrees decided job session t after deed told g says k e = kept_step t deed told after g (λ c. c) ∙ e
 
 module _
-    (limit bound : ℕ)
+    (limits : List ℕ) (bound : ℕ)
     (decided : ℕ → Option Negotiated)
     (whole more : List Turn)
     (begins : (job : ℕ) → job < bound → BeginsFirst (steps_of job whole))
@@ -233,7 +233,7 @@ module _
     (a : AreDisciplined bound whole)
   where
     on : (past turns : List Turn) (t now : Tables) → whole ≡ past ++ (turns ++ more) →
-        TablesRun (empty_tables limit) past t → TablesRun t turns now → t.negotiated ≡ agreed_after decided past →
+        TablesRun (empty_tables limits) past t → TablesRun t turns now → t.negotiated ≡ agreed_after decided past →
         now.negotiated ≡ agreed_after decided (past ++ turns)
     on past [] t now e p r k = ap options_of r ∙ k ∙ ap (agreed_after decided) (sym (append-nil past))
     on past (turn ∷ turns) t now e p r k =
@@ -246,17 +246,18 @@ module _
         let says = says_at (decided j) (steps_of j past) turn.step (steps_of j (turns ++ more))
         (subst (Each (λ one. IfMade (Says (decided j)) one.deed)) its_steps its.says) in
         let goes = agrees (decided j) j (session_after decided first_session past) t r.0 turn.step.deed turn.step.reply
-        r.1 says (λ given said is. started limit bound decided past turn (turns ++ more) t r.0
+        r.1 says (λ given said is. started limits bound decided past turn (turns ++ more) t r.0
         (subst (λ z. BeginsFirst (steps_of j z)) e (begins j below)) its d p r.1 given said is) k in
         subst (λ z. now.negotiated ≡ agreed_after decided z) (append_assoc past (turn ∷ []) turns)
         (on (past ++ turn ∷ []) turns r.0 now (e ∙ sym (append_assoc past (turn ∷ []) (turns ++ more)))
-        (tables_append past (turn ∷ []) (empty_tables limit) t r.0 p (r.0, r.1, refl)) r.2
+        (tables_append past (turn ∷ []) (empty_tables limits) t r.0 p (r.0, r.1, refl)) r.2
         (goes ∙ sym (ap (λ (z : Session). z.agreed) (session-append decided past (turn ∷ []) first_session))))
 
-pub agreed_law : (limit bound : ℕ) (decided : ℕ → Option Negotiated) (turns more : List Turn) (now : Tables) →
+pub agreed_law : (limits : List ℕ) (bound : ℕ) (decided : ℕ → Option Negotiated) (turns more : List Turn)
+    (now : Tables) →
     ((job : ℕ) → job < bound → BeginsFirst (steps_of job (turns ++ more))) →
     ((job : ℕ) → job < bound → Decides (decided job) (steps_of job (turns ++ more))) →
-    AreDisciplined bound (turns ++ more) → TablesRun (empty_tables limit) turns now →
+    AreDisciplined bound (turns ++ more) → TablesRun (empty_tables limits) turns now →
     now.negotiated ≡ agreed_after decided turns
-agreed_law limit bound decided turns more now begins decides a r =
-    on limit bound decided (turns ++ more) more begins decides a [] turns (empty_tables limit) now refl refl r refl
+agreed_law limits bound decided turns more now begins decides a r =
+    on limits bound decided (turns ++ more) more begins decides a [] turns (empty_tables limits) now refl refl r refl

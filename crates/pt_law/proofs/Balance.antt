@@ -3,7 +3,7 @@ use Rattle.std.proofs.Common.{◌≡◌, inl, inr, ℕ, suc, false, ◌+◌, ◌
 use Rattle.std.proofs.Common.{Option, Some, None, length-append}
 use Rattle.pt_host.specs.Words.{is, total}
 use Rattle.pt_tables.specs.Change.{Change}
-use Rattle.pt_tables.specs.Tables.{Tables, closing_of, closing_of_handle}
+use Rattle.pt_tables.specs.Tables.{Tables, Agree, closing_of, closing_of_handle}
 use Rattle.pt_tables.specs.declared.row.Row.{Row}
 use Rattle.pt_tables.specs.declared.row.HandleRow.{HandleRow}
 use Rattle.pt_tables.specs.Rows.{ChangesRow, number_rows, EndsRow, Dies, handle_rows, AllDie}
@@ -20,19 +20,22 @@ use Rattle.pt_frame.specs.Deed.{Deed, Changes as Asks}
 use Rattle.pt_frame.specs.Replies.{closings_in}
 use Rattle.pt_frame.specs.declared.act.ActReply.{ActReply}
 use Rattle.pt_frame.specs.declared.act.ActReply.TheVariants.{Event}
-use Rattle.pt_law.specs.Ledger.{row_slot, closing_slot, form_slot, kept_slots, row_has, handle_has, closing_has}
+use Rattle.pt_law.specs.Ledger.{row_slot, handle_slot, closing_slot, form_slot, kept_slots, row_has, handle_has}
+use Rattle.pt_law.specs.Ledger.{closing_has}
 use Rattle.pt_law.specs.Ledger.{kept_fds}
 use Rattle.pt_law.specs.Ledger.{fd_handed, fd_received, pin_made, pin_ended, handle_pin_made}
 use Rattle.pt_law.specs.Ledger.{handle_pin_ended, closing_ended}
 use Rattle.pt_law.specs.Ledger.{slot_taken}
 use Rattle.pt_law.proofs.Flows.{slot_in}
 use Rattle.pt_law.proofs.Flows.{row_pins, handle_pins, IsHonest}
-use Rattle.pt_law.proofs.Lists.{total_takes, total_replaces, total_push, length_takes, length_replaces}
+use Rattle.pt_law.proofs.Lists.{total_takes, total_replaces, total_push}
+use Rattle.pt_law.proofs.Slots.{lowered, raised}
 
-pub closing_slot_of : (row : Row) → closing_slot (closing_of row) ≡ row_slot row
-closing_slot_of row = go row.form
+pub closing_slot_of : (class : ℕ) (row : Row) → closing_slot class (closing_of row) ≡ row_slot class row
+closing_slot_of class row = go row.form
   where
-    go : (form : RowForm) → closing_slot (closing_of (record row { form = form })) ≡ form_slot form
+    go : (form : RowForm) → closing_slot class (closing_of (record row { form = form }))
+        ≡ form_slot class row.class form
     go (File fd) = refl
 
 pub closing_fd_of : (fd : ℕ) (row : Row) → closing_has fd (closing_of row) ≡ row_has fd row
@@ -45,7 +48,8 @@ closing_fd_of fd row = go row.form
 -- what the tables have more after, and less: descriptors, slots, pins and closings
 pub record Moved (t after : Tables) (deed : Deed) (told : ActReply) : Type 0 where
   pub fds : (fd : ℕ) → kept_fds fd after + fd_received fd deed told ≡ kept_fds fd t + fd_handed fd deed told
-  pub slots : kept_slots after + slot_taken deed told ≡ kept_slots t + slot_in deed told
+  pub slots : (class : ℕ) →
+      kept_slots class after + slot_taken class deed told ≡ kept_slots class t + slot_in class deed told
   pub pins : (serial : ℕ) →
       total (row_pins serial) after.rows + pin_ended serial deed told
       ≡ total (row_pins serial) t.rows + pin_made serial deed told
@@ -57,7 +61,7 @@ pub record Moved (t after : Tables) (deed : Deed) (told : ActReply) : Type 0 whe
 -- nothing goes in or out, and so many more are to be closed
 record Sheds (t after : Tables) (n : ℕ) : Type 0 where
   fds : (fd : ℕ) → kept_fds fd after ≡ kept_fds fd t
-  slots : kept_slots after ≡ kept_slots t
+  slots : (class : ℕ) → kept_slots class after ≡ kept_slots class t
   pins : (serial : ℕ) → total (row_pins serial) after.rows ≡ total (row_pins serial) t.rows
   handle_pins : (serial : ℕ) → total (handle_pins serial) after.handles ≡ total (handle_pins serial) t.handles
   closings : length after.closing ≡ length t.closing + n
@@ -65,21 +69,22 @@ record Sheds (t after : Tables) (n : ℕ) : Type 0 where
 sheds_none : (t : Tables) → Sheds t t 0
 sheds_none t = record {
   fds = λ fd. refl;
-  slots = refl;
+  slots = λ class. refl;
   pins = λ serial. refl;
   handle_pins = λ serial. refl;
   closings = omega arith;
 }
 
 -- a row changes, and keeps form and pins
-recounts : (t : Tables) (row later : Row) (after : Tables) → later.form ≡ row.form → later.serial ≡ row.serial →
-    later.pins ≡ row.pins → ChangesRow number_rows t row later after → Sheds t after 0
-recounts t row later after form serial pins h = rw h.2 (record {
+recounts : (t : Tables) (row later : Row) (after : Tables) → later.form ≡ row.form → later.class ≡ row.class →
+    later.serial ≡ row.serial → later.pins ≡ row.pins → ChangesRow number_rows t row later after → Sheds t after 0
+recounts t row later after form class serial pins h = rw h.2 (record {
   fds = λ fd. let a = total_replaces (row_has fd) h.1 in
       let b : row_has fd later ≡ row_has fd row = ap (λ f. row_has fd (record row { form = f })) form in
       omega (arith, a, b);
-  slots = let a = total_replaces row_slot h.1 in let b : row_slot later ≡ row_slot row = ap form_slot form in
-      omega (arith, a, b);
+  slots = λ k. let a = total_replaces (row_slot k) h.1 in
+      let b : row_slot k later ≡ row_slot k row = ap (form_slot k later.class) form
+      ∙ ap (λ c. form_slot k c row.form) class in omega (arith, a, b);
   pins = λ s. let a = total_replaces (row_pins s) h.1 in
       let b : row_pins s later ≡ row_pins s row = ap (λ n. is n s * later.pins) serial
       ∙ ap (λ n. is row.serial s * n) pins in omega (arith, a, b);
@@ -90,7 +95,7 @@ recounts t row later after form serial pins h = rw h.2 (record {
 -- a row ends; its pins end with it
 record Shut (t after : Tables) (row : Row) : Type 0 where
   fds : (fd : ℕ) → kept_fds fd after ≡ kept_fds fd t
-  slots : kept_slots after ≡ kept_slots t
+  slots : (class : ℕ) → kept_slots class after ≡ kept_slots class t
   pins : (serial : ℕ) → total (row_pins serial) after.rows + row_pins serial row ≡ total (row_pins serial) t.rows
   handle_pins : (serial : ℕ) → total (handle_pins serial) after.handles ≡ total (handle_pins serial) t.handles
   closings : length after.closing ≡ length t.closing + 1
@@ -100,8 +105,9 @@ shuts t row after h = rw h.2 (record {
   fds = λ fd. let a = total_takes (row_has fd) h.1 in
       let b = total_push (closing_has fd) t.closing (closing_of row) in
       let c = closing_fd_of fd row in omega (arith, a, b, c);
-  slots = let a = total_takes row_slot h.1 in let b = total_push closing_slot t.closing (closing_of row) in
-      let c = closing_slot_of row in omega (arith, a, b, c);
+  slots = λ k. let a = total_takes (row_slot k) h.1 in
+      let b = total_push (closing_slot k) t.closing (closing_of row) in
+      let c = closing_slot_of k row in omega (arith, a, b, c);
   pins = λ s. let a = total_takes (row_pins s) h.1 in omega (arith, a);
   handle_pins = λ s. refl;
   closings = let a = length-append t.closing (closing_of row ∷ []) in omega (arith, a);
@@ -121,7 +127,7 @@ sheds_dies t row n after (inl h) =
       closings = let a = s.closings in omega (arith, a, h.1);
     }
 sheds_dies t row n after (inr h) =
-    let s = recounts t row _ after refl refl refl h.2 in
+    let s = recounts t row _ after refl refl refl refl h.2 in
     record {
       fds = s.fds;
       slots = s.slots;
@@ -133,7 +139,7 @@ sheds_dies t row n after (inr h) =
 sheds_one : (t : Tables) (number amount n : ℕ) (after : Tables) → ForgetsOne t number amount n after → Sheds t after n
 sheds_one t number amount n after (inl h) = rw (h.2, h.1) (sheds_none t)
 sheds_one t number amount n after (inr (row, has, inl h)) =
-    let s = recounts t row _ after refl refl refl h.2 in
+    let s = recounts t row _ after refl refl refl refl h.2 in
     record {
       fds = s.fds;
       slots = s.slots;
@@ -150,7 +156,7 @@ sheds_all t (pair ∷ pairs) n after h =
     let b = sheds_all h.0 pairs h.2 after h.4 in
     record {
       fds = λ fd. b.fds fd ∙ a.fds fd;
-      slots = b.slots ∙ a.slots;
+      slots = λ k. b.slots k ∙ a.slots k;
       pins = λ s. b.pins s ∙ a.pins s;
       handle_pins = λ s. b.handle_pins s ∙ a.handle_pins s;
       closings = let x = a.closings in let y = b.closings in omega (arith, x, y, h.5);
@@ -159,12 +165,13 @@ sheds_all t (pair ∷ pairs) n after h =
 -- a deed that moves nothing but the closings it tells
 moved_by : (t after : Tables) (n : ℕ) (deed : Deed) (told : ActReply) → Sheds t after n → closings_in deed told ≡ n →
     closing_ended deed told ≡ 0 →
-    ((fd : ℕ) → fd_received fd deed told ≡ fd_handed fd deed told) → slot_taken deed told ≡ slot_in deed told →
+    ((fd : ℕ) → fd_received fd deed told ≡ fd_handed fd deed told) →
+    ((class : ℕ) → slot_taken class deed told ≡ slot_in class deed told) →
     ((serial : ℕ) → pin_ended serial deed told ≡ pin_made serial deed told) →
     ((serial : ℕ) → handle_pin_ended serial deed told ≡ handle_pin_made serial deed told) → Moved t after deed told
 moved_by t after n deed told s c e f l p q = record {
   fds = λ fd. let a = s.fds fd in let b = f fd in omega (arith, a, b);
-  slots = let a = s.slots in omega (arith, a, l);
+  slots = λ k. let a = s.slots k in let b = l k in omega (arith, a, b);
   pins = λ k. let a = s.pins k in let b = p k in omega (arith, a, b);
   handle_pins = λ k. let a = s.handle_pins k in let b = q k in omega (arith, a, b);
   closings = let a = s.closings in omega (arith, a, c, e);
@@ -172,7 +179,8 @@ moved_by t after n deed told s c e f l p q = record {
 
 same : (t after : Tables) (deed : Deed) (told : ActReply) → after ≡ t → closings_in deed told ≡ 0 →
     closing_ended deed told ≡ 0 →
-    ((fd : ℕ) → fd_received fd deed told ≡ fd_handed fd deed told) → slot_taken deed told ≡ slot_in deed told →
+    ((fd : ℕ) → fd_received fd deed told ≡ fd_handed fd deed told) →
+    ((class : ℕ) → slot_taken class deed told ≡ slot_in class deed told) →
     ((serial : ℕ) → pin_ended serial deed told ≡ pin_made serial deed told) →
     ((serial : ℕ) → handle_pin_ended serial deed told ≡ handle_pin_made serial deed told) → Moved t after deed told
 same t after deed told e = rw e (moved_by t t 0 deed told (sheds_none t))
@@ -180,10 +188,11 @@ same t after deed told e = rw e (moved_by t t 0 deed told (sheds_none t))
 again : (t : Tables) (row : Row) (after : Tables) (deed : Deed) (told : ActReply) →
     ChangesRow number_rows t row (record row { count = row.count + 1 }) after → closings_in deed told ≡ 0 →
     closing_ended deed told ≡ 0 →
-    ((fd : ℕ) → fd_received fd deed told ≡ fd_handed fd deed told) → slot_taken deed told ≡ slot_in deed told →
+    ((fd : ℕ) → fd_received fd deed told ≡ fd_handed fd deed told) →
+    ((class : ℕ) → slot_taken class deed told ≡ slot_in class deed told) →
     ((serial : ℕ) → pin_ended serial deed told ≡ pin_made serial deed told) →
     ((serial : ℕ) → handle_pin_ended serial deed told ≡ handle_pin_made serial deed told) → Moved t after deed told
-again t row after deed told h = moved_by t after 0 deed told (recounts t row _ after refl refl refl h)
+again t row after deed told h = moved_by t after 0 deed told (recounts t row _ after refl refl refl refl h)
 
 unpinned : (t : Tables) (serial n : ℕ) (after : Tables) → GivesPin number_rows t serial n after →
     Moved t after (Asks (change.Unpin serial)) (Event (reply.Done n))
@@ -191,7 +200,7 @@ unpinned t serial n after (row, pins, s, p, inl h) =
     let m = shuts t row after h.3 in
     record {
       fds = λ fd. let a = m.fds fd in omega (arith, a);
-      slots = let a = m.slots in omega (arith, a);
+      slots = λ k. let a = m.slots k in omega (arith, a);
       pins = λ k.
           let a = m.pins k in
           let b : row_pins k row ≡ is serial k * 1 =
@@ -204,7 +213,7 @@ unpinned t serial n after (row, pins, s, p, inr h) =
     let c = h.2 in
     rw c.2 (record {
       fds = λ fd. let a = total_replaces (row_has fd) c.1 in omega (arith, a);
-      slots = let a = total_replaces row_slot c.1 in omega (arith, a);
+      slots = λ k. let a = total_replaces (row_slot k) c.1 in omega (arith, a);
       pins = λ k.
           let a = total_replaces (row_pins k) c.1 in
           let b : row_pins k row ≡ is row.serial k * suc pins = ap (λ i. is row.serial k * i) p in
@@ -216,21 +225,21 @@ unpinned t serial n after (row, pins, s, p, inr h) =
 
 inserts : (t : Tables) (number : ℕ) (form : RowForm) (row : Row) (deed : Deed) (told : ActReply) → row.form ≡ form →
     row.pins ≡ 0 → ((fd : ℕ) → fd_received fd deed told + row_has fd row ≡ fd_handed fd deed told) →
-    slot_taken deed told + row_slot row ≡ slot_in deed told →
+    ((class : ℕ) → slot_taken class deed told + row_slot class row ≡ slot_in class deed told) →
     ((serial : ℕ) → pin_ended serial deed told ≡ pin_made serial deed told) →
     ((serial : ℕ) → handle_pin_ended serial deed told ≡ handle_pin_made serial deed told) →
     closings_in deed told ≡ 0 → closing_ended deed told ≡ 0 →
     (negotiated : Option Negotiated) → Moved t (agreed negotiated (with_row t row)) deed told
 inserts t number form row deed told e z f s p q c d None = record {
   fds = λ fd. let a = f fd in omega (arith, a);
-  slots = omega (arith, s);
+  slots = λ k. let a = s k in omega (arith, a);
   pins = λ k. let a = p k in let b = no_pins k row z in omega (arith, a, b);
   handle_pins = λ k. let a = q k in omega (arith, a);
   closings = omega (arith, c, d);
 }
 inserts t number form row deed told e z f s p q c d (Some n) = record {
   fds = λ fd. let a = f fd in omega (arith, a);
-  slots = omega (arith, s);
+  slots = λ k. let a = s k in omega (arith, a);
   pins = λ k. let a = p k in let b = no_pins k row z in omega (arith, a, b);
   handle_pins = λ k. let a = q k in omega (arith, a);
   closings = omega (arith, c, d);
@@ -241,7 +250,7 @@ handle_recounts : (t : Tables) (row : HandleRow) (after : Tables) →
     ChangesRow handle_rows t row (record row { live = false }) after → Sheds t after 0
 handle_recounts t row after h = rw h.2 (record {
   fds = λ fd. let a = total_replaces (handle_has fd) h.1 in omega (arith, a);
-  slots = let a = length_replaces h.1 in omega (arith, a);
+  slots = λ k. let a = total_replaces (handle_slot k) h.1 in omega (arith, a);
   pins = λ s. refl;
   handle_pins = λ s. let a = total_replaces (handle_pins s) h.1 in omega (arith, a);
   closings = omega arith;
@@ -250,7 +259,7 @@ handle_recounts t row after h = rw h.2 (record {
 -- a handle's row ends, and its pins with it
 record HandleShut (t after : Tables) (row : HandleRow) : Type 0 where
   fds : (fd : ℕ) → kept_fds fd after ≡ kept_fds fd t
-  slots : kept_slots after ≡ kept_slots t
+  slots : (class : ℕ) → kept_slots class after ≡ kept_slots class t
   pins : (serial : ℕ) → total (row_pins serial) after.rows ≡ total (row_pins serial) t.rows
   handle_pins : (serial : ℕ) →
       total (handle_pins serial) after.handles + handle_pins serial row ≡ total (handle_pins serial) t.handles
@@ -261,8 +270,8 @@ handle_shuts : (t : Tables) (row : HandleRow) (after : Tables) → EndsRow handl
 handle_shuts t row after h = rw h.2 (record {
   fds = λ fd. let a = total_takes (handle_has fd) h.1 in
       let b = total_push (closing_has fd) t.closing (closing_of_handle row) in omega (arith, a, b);
-  slots = let a = length_takes h.1 in let b = total_push closing_slot t.closing (closing_of_handle row) in
-      omega (arith, a, b);
+  slots = λ k. let a = total_takes (handle_slot k) h.1 in
+      let b = total_push (closing_slot k) t.closing (closing_of_handle row) in omega (arith, a, b);
   pins = λ s. refl;
   handle_pins = λ s. let a = total_takes (handle_pins s) h.1 in omega (arith, a);
   closings = let a = length-append t.closing (closing_of_handle row ∷ []) in omega (arith, a);
@@ -292,7 +301,7 @@ sheds_handle t row n after (inr h) =
 sheds_both : (t mid after : Tables) (n m : ℕ) → Sheds t mid n → Sheds mid after m → Sheds t after (n + m)
 sheds_both t mid after n m a b = record {
   fds = λ fd. b.fds fd ∙ a.fds fd;
-  slots = b.slots ∙ a.slots;
+  slots = λ k. b.slots k ∙ a.slots k;
   pins = λ s. b.pins s ∙ a.pins s;
   handle_pins = λ s. b.handle_pins s ∙ a.handle_pins s;
   closings = let x = a.closings in let y = b.closings in omega (arith, x, y);
@@ -325,7 +334,7 @@ handle_unpinned t serial n after (row, pins, s, p, inl h) =
     let m = handle_shuts t row after h.3 in
     record {
       fds = λ fd. let a = m.fds fd in omega (arith, a);
-      slots = let a = m.slots in omega (arith, a);
+      slots = λ k. let a = m.slots k in omega (arith, a);
       pins = λ k. let a = m.pins k in omega (arith, a);
       handle_pins = λ k.
           let a = m.handle_pins k in
@@ -338,7 +347,7 @@ handle_unpinned t serial n after (row, pins, s, p, inr h) =
     let c = h.2 in
     rw c.2 (record {
       fds = λ fd. let a = total_replaces (handle_has fd) c.1 in omega (arith, a);
-      slots = let a = length_replaces c.1 in omega (arith, a);
+      slots = λ k. let a = total_replaces (handle_slot k) c.1 in omega (arith, a);
       pins = λ k. omega arith;
       handle_pins = λ k.
           let a = total_replaces (handle_pins k) c.1 in
@@ -348,15 +357,15 @@ handle_unpinned t serial n after (row, pins, s, p, inr h) =
       closings = omega (arith, h.1);
     })
 
-moved_by_case : (t : Tables) (e : Change) (r : EventReply) (after : Tables) → Case t e r after →
+moved_by_case : (t : Tables) (e : Change) (r : EventReply) (after : Tables) → Agree t → Case t e r after →
     IsHonest (Asks e) (Event r) → Moved t after (Asks e) (Event r)
-moved_by_case t change.Begin (reply.Began era negotiated) after h a =
-    same t after _ _ h.2 refl refl (λ _. refl) refl (λ _. refl) (λ _. refl)
-moved_by_case t (change.Resolve number) (reply.Resolved resolved) after h a =
+moved_by_case t change.Begin (reply.Began era negotiated) after agree h a =
+    same t after _ _ h.2 refl refl (λ _. refl) (λ _. refl) (λ _. refl) (λ _. refl)
+moved_by_case t (change.Resolve number) (reply.Resolved resolved) after agree h a =
     let c = h.7 in
     rw c.2 (record {
       fds = λ fd. let x = total_replaces (row_has fd) c.1 in omega (arith, x);
-      slots = let x = total_replaces row_slot c.1 in omega (arith, x);
+      slots = λ k. let x = total_replaces (row_slot k) c.1 in omega (arith, x);
       pins = λ k.
           let x = total_replaces (row_pins k) c.1 in
           let y : is h.0.serial k ≡ is resolved.row k = ap (λ i. is i k) h.2 in
@@ -364,74 +373,75 @@ moved_by_case t (change.Resolve number) (reply.Resolved resolved) after h a =
       handle_pins = λ k. omega arith;
       closings = omega arith;
     })
-moved_by_case t (change.Unpin serial) (reply.Done closings) after h a = unpinned t serial closings after h
-moved_by_case t (change.Unpin serial) (reply.Refused why) after h a = absurd a
-moved_by_case t (change.Claim claim) (reply.Claimed given) after h a =
-    again t h.1.0 after _ _ h.1.4 refl refl (λ _. refl) refl (λ _. refl) (λ _. refl)
-moved_by_case t (change.Claim claim) reply.Absent after h a =
-    same t after _ _ h.2 refl refl (λ _. refl) refl (λ _. refl) (λ _. refl)
-moved_by_case t change.TakeFd reply.Taken after h a =
+moved_by_case t (change.Unpin serial) (reply.Done closings) after agree h a = unpinned t serial closings after h
+moved_by_case t (change.Unpin serial) (reply.Refused why) after agree h a = absurd a
+moved_by_case t (change.Claim claim) (reply.Claimed given) after agree h a =
+    again t h.1.0 after _ _ h.1.4 refl refl (λ _. refl) (λ _. refl) (λ _. refl) (λ _. refl)
+moved_by_case t (change.Claim claim) reply.Absent after agree h a =
+    same t after _ _ h.2 refl refl (λ _. refl) (λ _. refl) (λ _. refl) (λ _. refl)
+moved_by_case t (change.TakeFd class) reply.Taken after agree h a =
     rw h.2 (record {
       fds = λ fd. omega arith;
-      slots = omega (arith, h.1);
+      slots = λ k. let x = lowered t.slots class h.0 k h.1 in omega (arith, x);
       pins = λ _. omega arith;
       handle_pins = λ _. omega arith;
       closings = omega arith;
     })
-moved_by_case t change.GiveFd reply.Given after h a =
+moved_by_case t (change.GiveFd class) reply.Given after agree h a =
     rw h.1 (record {
       fds = λ fd. omega arith;
-      slots = omega arith;
+      slots = λ k. let x = raised t.slots t.limits class k agree.classes h.0 in omega (arith, x);
       pins = λ _. omega arith;
       handle_pins = λ _. omega arith;
       closings = omega arith;
     })
-moved_by_case t change.GiveFd (reply.Refused why) after h a = absurd a
-moved_by_case t change.DrawNode (reply.Drawn number) after h a =
+moved_by_case t (change.GiveFd class) (reply.Refused why) after agree h a = absurd a
+moved_by_case t change.DrawNode (reply.Drawn number) after agree h a =
     rw h.2 (record {
       fds = λ fd. omega arith;
-      slots = omega arith;
+      slots = λ _. omega arith;
       pins = λ _. omega arith;
       handle_pins = λ _. omega arith;
       closings = omega arith;
     })
-moved_by_case t (change.Insert new) (reply.Inserted given) after h a =
-    rw h.4 (inserts t new.number new.form (new_row t new.number new.form new.ids new.mode 1) (Asks (change.Insert new))
-    (Event (reply.Inserted given)) refl refl (λ _. omega arith) (omega arith) (λ _. refl) (λ _.
+moved_by_case t (change.Insert new) (reply.Inserted given) after agree h a =
+    rw h.4 (inserts t new.number new.form (new_row t new.number new.form new.ids new.mode new.class 1)
+    (Asks (change.Insert new))
+    (Event (reply.Inserted given)) refl refl (λ _. omega arith) (λ _. omega arith) (λ _. refl) (λ _.
     refl) refl refl None)
-moved_by_case t (change.Insert new) (reply.Found given) after h a =
-    again t h.1.0 after _ _ h.1.4 refl refl (λ _. refl) refl (λ _. refl) (λ _. refl)
-moved_by_case t (change.InsertRoot new) (reply.Inserted given) after h a =
-    rw h.4 (inserts t 1 new.form (new_row t 1 new.form new.ids new.mode 2) (Asks (change.InsertRoot new))
-    (Event (reply.Inserted given)) refl refl (λ _. omega arith) (omega arith) (λ _. refl) (λ _.
+moved_by_case t (change.Insert new) (reply.Found given) after agree h a =
+    again t h.1.0 after _ _ h.1.4 refl refl (λ _. refl) (λ _. refl) (λ _. refl) (λ _. refl)
+moved_by_case t (change.InsertRoot new) (reply.Inserted given) after agree h a =
+    rw h.4 (inserts t 1 new.form (new_row t 1 new.form new.ids new.mode 0 2) (Asks (change.InsertRoot new))
+    (Event (reply.Inserted given)) refl refl (λ _. omega arith) (λ _. omega arith) (λ _. refl) (λ _.
     refl) refl refl new.negotiated)
-moved_by_case t (change.Forget list) (reply.Done closings) after h a =
+moved_by_case t (change.Forget list) (reply.Done closings) after agree h a =
     moved_by t after closings (Asks (change.Forget list)) (Event (reply.Done closings))
-    (sheds_all t list closings after h) refl refl (λ _. refl) refl (λ _. refl) (λ _. refl)
-moved_by_case t (change.GiveBack era number) (reply.Done closings) after h a =
+    (sheds_all t list closings after h) refl refl (λ _. refl) (λ _. refl) (λ _. refl) (λ _. refl)
+moved_by_case t (change.GiveBack era number) (reply.Done closings) after agree h a =
     moved_by t after closings (Asks (change.GiveBack era number)) (Event (reply.Done closings))
-    (sheds_one t number 1 closings after h.2) refl refl (λ _. refl) refl (λ _. refl) (λ _. refl)
-moved_by_case t change.DrawHandle (reply.Drawn handle) after h a =
+    (sheds_one t number 1 closings after h.2) refl refl (λ _. refl) (λ _. refl) (λ _. refl) (λ _. refl)
+moved_by_case t change.DrawHandle (reply.Drawn handle) after agree h a =
     rw h.2 (record {
       fds = λ fd. omega arith;
-      slots = omega arith;
+      slots = λ _. omega arith;
       pins = λ _. omega arith;
       handle_pins = λ _. omega arith;
       closings = omega arith;
     })
-moved_by_case t (change.InsertHandle new) (reply.Inserted given) after h a =
+moved_by_case t (change.InsertHandle new) (reply.Inserted given) after agree h a =
     rw h.4 (record {
       fds = λ k. omega arith;
-      slots = omega arith;
+      slots = λ _. omega arith;
       pins = λ _. omega arith;
       handle_pins = λ k. omega arith;
       closings = omega arith;
     })
-moved_by_case t (change.PinHandle handle number) (reply.Pinned serial fd) after h a =
+moved_by_case t (change.PinHandle handle number) (reply.Pinned serial fd) after agree h a =
     let c = h.5 in
     rw c.2 (record {
       fds = λ k. let x = total_replaces (handle_has k) c.1 in omega (arith, x);
-      slots = let x = length_replaces c.1 in omega (arith, x);
+      slots = λ k. let x = total_replaces (handle_slot k) c.1 in omega (arith, x);
       pins = λ _. omega arith;
       handle_pins = λ k.
           let x = total_replaces (handle_pins k) c.1 in
@@ -439,28 +449,29 @@ moved_by_case t (change.PinHandle handle number) (reply.Pinned serial fd) after 
           omega (arith, x, y);
       closings = omega arith;
     })
-moved_by_case t (change.UnpinHandle serial) (reply.Done closings) after h a = handle_unpinned t serial closings after
+moved_by_case t (change.UnpinHandle serial) (reply.Done closings) after agree h a =
+    handle_unpinned t serial closings after
     h
-moved_by_case t (change.UnpinHandle serial) (reply.Refused why) after h a = absurd a
-moved_by_case t (change.Release handle number) (reply.Done closings) after h a =
+moved_by_case t (change.UnpinHandle serial) (reply.Refused why) after agree h a = absurd a
+moved_by_case t (change.Release handle number) (reply.Done closings) after agree h a =
     moved_by t after closings (Asks (change.Release handle number)) (Event (reply.Done closings))
-    (sheds_handle t h.0 closings after h.2) refl refl (λ _. refl) refl (λ _. refl) (λ _. refl)
-moved_by_case t change.Clear (reply.Cleared era closings) after h a =
+    (sheds_handle t h.0 closings after h.2) refl refl (λ _. refl) (λ _. refl) (λ _. refl) (λ _. refl)
+moved_by_case t change.Clear (reply.Cleared era closings) after agree h a =
     moved_by t after closings (Asks change.Clear) (Event (reply.Cleared era closings))
-    (sheds_clears t closings after h.1) refl refl (λ _. refl) refl (λ _. refl) (λ _. refl)
-moved_by_case t change.TakeClosing (reply.Closing first) after h a =
+    (sheds_clears t closings after h.1) refl refl (λ _. refl) (λ _. refl) (λ _. refl) (λ _. refl)
+moved_by_case t change.TakeClosing (reply.Closing first) after agree h a =
     rw h.2 (record {
       fds = λ k. let x = ap (total (closing_has k)) h.1 in omega (arith, x);
-      slots = let x = ap (total closing_slot) h.1 in omega (arith, x);
+      slots = λ k. let x = ap (total (closing_slot k)) h.1 in omega (arith, x);
       pins = λ _. omega arith;
       handle_pins = λ _. omega arith;
       closings = let x = ap length h.1 in omega (arith, x);
     })
-moved_by_case t change.TakeClosing (reply.Refused why) after h a = absurd a
-moved_by_case t e (reply.Refused why) after h a =
-    same t after _ _ h.1 refl refl (λ _. refl) refl (λ _. refl) (λ _. refl)
-moved_by_case t _ _ after h a = absurd h
+moved_by_case t change.TakeClosing (reply.Refused why) after agree h a = absurd a
+moved_by_case t e (reply.Refused why) after agree h a =
+    same t after _ _ h.1 refl refl (λ _. refl) (λ _. refl) (λ _. refl) (λ _. refl)
+moved_by_case t _ _ after agree h a = absurd h
 
-pub moved : (t : Tables) (e : Change) (r : EventReply) (after : Tables) → Happens t e r after →
+pub moved : (t : Tables) (e : Change) (r : EventReply) (after : Tables) → Agree t → Happens t e r after →
     IsHonest (Asks e) (Event r) → Moved t after (Asks e) (Event r)
-moved t e r after h a = moved_by_case t e r after (cases t after e r h) a
+moved t e r after agree h a = moved_by_case t e r after agree (cases t after e r h) a

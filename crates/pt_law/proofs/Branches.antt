@@ -40,7 +40,7 @@ giving_gives : (seat : HostSeat) (one : Hold) → ReturnsHold (Some (giving seat
 giving_gives seat (hold.Pin row fd) = tt
 giving_gives seat (hold.HandlePin row fd) = tt
 giving_gives seat (hold.Fd fd) = tt
-giving_gives seat hold.Slot = tt
+giving_gives seat (hold.Slot class) = tt
 giving_gives seat (hold.Count era number) = tt
 giving_gives seat hold.Groups = tt
 giving_gives seat hold.EffectiveGid = tt
@@ -89,24 +89,24 @@ pub pass_taken : (brings : Taken) (count : ℕ) (holds : List Hold) (rest : Gram
     Belongs (give_taken brings count holds rest) steps end → Reached rest steps end
 pass_taken taken.Nothing count holds rest steps end b =
     record { later = steps; backs = backs_none steps; belongs = b }
-pass_taken taken.Slot count holds rest [] end b = absurd b
-pass_taken taken.Slot count holds rest (step ∷ steps) end b = record {
+pass_taken (taken.Slot class) count holds rest [] end b = absurd b
+pass_taken (taken.Slot class) count holds rest (step ∷ steps) end b = record {
   later = steps;
-  backs = backs_one step steps steps (back_step (Changes change.GiveFd) step.deed step.reply b.0 tt)
+  backs = backs_one step steps steps (back_step (Changes (change.GiveFd class)) step.deed step.reply b.0 tt)
       (backs_none steps);
   belongs = b.1;
 }
-pass_taken (taken.Fd fd true) count holds rest [] end b = absurd b
-pass_taken (taken.Fd fd true) count holds rest (step ∷ []) end b = absurd b.1
-pass_taken (taken.Fd fd true) count holds rest (step ∷ other ∷ steps) end b = record {
+pass_taken (taken.Fd fd true class) count holds rest [] end b = absurd b
+pass_taken (taken.Fd fd true class) count holds rest (step ∷ []) end b = absurd b.1
+pass_taken (taken.Fd fd true class) count holds rest (step ∷ other ∷ steps) end b = record {
   later = steps;
   backs = backs_one step steps (other ∷ steps) (back_step (Calls (call.Close fd)) step.deed step.reply b.0 tt)
-      (backs_one other steps steps (back_step (Changes change.GiveFd) other.deed other.reply b.1.0 tt)
+      (backs_one other steps steps (back_step (Changes (change.GiveFd class)) other.deed other.reply b.1.0 tt)
       (backs_none steps));
   belongs = b.1.1;
 }
-pass_taken (taken.Fd fd false) count holds rest [] end b = absurd b
-pass_taken (taken.Fd fd false) count holds rest (step ∷ steps) end b = record {
+pass_taken (taken.Fd fd false class) count holds rest [] end b = absurd b
+pass_taken (taken.Fd fd false class) count holds rest (step ∷ steps) end b = record {
   later = steps;
   backs = backs_one step steps steps (back_step (Calls (call.Close fd)) step.deed step.reply b.0 tt)
       (backs_none steps);

@@ -68,11 +68,12 @@ carries_on fd job turns turn h gives = ⊎_elim
     (cases_eq turn.job job)
 
 -- what a job has is open
-has_open : (limit bound : ℕ) (turns more : List Turn) (start now : World) (job fd : ℕ) → Starts limit start →
+has_open : (limits : List ℕ) (bound : ℕ) (turns more : List Turn) (start now : World) (job fd : ℕ) →
+    Starts limits start →
     AreDisciplined bound (turns ++ more) → job < bound → Runs start turns now →
     0 < fds_carried fd (steps_of job turns) → 0 < open_count fd now.tree
-has_open limit bound turns more start now job fd s a lt r h =
-    let v = reach limit bound turns more start now s a r in
+has_open limits bound turns more start now job fd s a lt r h =
+    let v = reach limits bound turns more start now s a r in
     let f = v.1.fds fd in
     let p = part (fd_held fd) v.0 bound job lt in
     let c = (fds_held fd (steps_of job turns) (v.0 job) (v.2 job lt).0).0 in
@@ -155,41 +156,43 @@ given_rest fd job turn turns z = ⊎_elim
     let a = ap (summed (fd_given fd)) (steps_past job turn turns e) in omega (arith, a, z))
     (cases_eq turn.job job)
 
-pub carried_law : (limit bound : ℕ) (turns between more : List Turn) (start was now : World) (job : ℕ) (fd : Fd)
-    (object : ℕ) → Starts limit start → AreDisciplined bound (turns ++ (between ++ more)) → job < bound →
+pub carried_law : (limits : List ℕ) (bound : ℕ) (turns between more : List Turn) (start was now : World) (job : ℕ)
+    (fd : Fd)
+    (object : ℕ) → Starts limits start → AreDisciplined bound (turns ++ (between ++ more)) → job < bound →
     Runs start turns was → Runs was between now → 0 < fds_carried fd.0 (steps_of job turns) →
     summed (fd_given fd.0) (steps_of job between) ≡ 0 → IsOpenOn was.tree fd object → IsOpenOn now.tree fd object
-carried_law limit bound turns [] more start was now job fd object s a lt r k h z o =
+carried_law limits bound turns [] more start was now job fd object s a lt r k h z o =
     subst (λ (w : World). IsOpenOn w.tree fd object) (sym k) o
-carried_law limit bound turns (turn ∷ between) more start was now job fd object s a lt r k h z o =
+carried_law limits bound turns (turn ∷ between) more start was now job fd object s a lt r k h z o =
     let d : AreDisciplined bound ((turns ++ turn ∷ []) ++ (between ++ more)) =
     subst (AreDisciplined bound) (sym (append_assoc turns (turn ∷ []) (between ++ more))) a in
     let on : Runs start (turns ++ turn ∷ []) k.0 = runs_append turns (turn ∷ []) start was k.0 r (k.0, k.1, refl) in
     let carried = carries_on fd.0 job turns turn h (given_first fd.0 job turn between z) in
-    let is_open = has_open limit bound (turns ++ turn ∷ []) (between ++ more) start k.0 job fd.0 s d lt on carried in
+    let is_open = has_open limits bound (turns ++ turn ∷ []) (between ++ more) start k.0 job fd.0 s d lt on carried in
     let g = k.1 in
-    carried_law limit bound (turns ++ turn ∷ []) between more start k.0 now job fd object s d lt on k.2 carried
+    carried_law limits bound (turns ++ turn ∷ []) between more start k.0 now job fd object s d lt on k.2 carried
     (given_rest fd.0 job turn between z)
     (step_stays_open turn.step.deed turn.step.reply was.tree k.0.tree g.seat g.seat_after was.tables k.0.tables fd
     object g.made is_open o)
 
 -- a handle is inserted for what its descriptor was opened on, which its number stands for
-pub handled_law : (limit bound : ℕ) (turns between more : List Turn) (start was now : World) (job object : ℕ)
-    (new : NewHandle) (told : ActReply) → Starts limit start →
+pub handled_law : (limits : List ℕ) (bound : ℕ) (turns between more : List Turn) (start was now : World)
+    (job object : ℕ)
+    (new : NewHandle) (told : ActReply) → Starts limits start →
     AreDisciplined bound (turns ++ (between ++ turn_by job (made (Changes (change.InsertHandle new)) told) ∷ more)) →
     job < bound → Runs start turns was → Runs was between now → 0 < fds_carried new.fd.0 (steps_of job turns) →
     summed (fd_given new.fd.0) (steps_of job between) ≡ 0 → IsOpenOn was.tree new.fd object →
     now.past.resolved job new.number ≡ Some object
-handled_law limit bound turns between more start was now job object new told s a lt r k h z o =
+handled_law limits bound turns between more start was now job object new told s a lt r k h z o =
     let fd = new.fd in
     let t = turn_by job (made (Changes (change.InsertHandle new)) told) in
     let d : AreDisciplined bound ((turns ++ between) ++ t ∷ more) =
     subst (AreDisciplined bound) (sym (append_assoc turns between (t ∷ more))) a in
     let on = runs_append turns between start was now r k in
-    let v = reach limit bound (turns ++ between) (t ∷ more) start now s d on in
+    let v = reach limits bound (turns ++ between) (t ∷ more) start now s d on in
     let own = v.2 job lt in
     let move = next_move t more (v.0 job) own.1 own.2 in
     let n = inserted_open now.tree now.tables.next_row now.past job (v.0 job) new.number fd (v.1.right.knows job lt)
     move.1.1.2 in
-    let carried = carried_law limit bound turns between (t ∷ more) start was now job fd object s a lt r k h z o in
+    let carried = carried_law limits bound turns between (t ∷ more) start was now job fd object s a lt r k h z o in
     n.2 ∙ ap Some (one_object now.tree fd n.0 object n.1 carried)

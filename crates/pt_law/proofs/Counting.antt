@@ -1,12 +1,13 @@
 -- Each step keeps slots, pins and closings in balance.
-use Rattle.std.proofs.Common.{◌≡◌, ◌≢◌, ⊎_elim, ℕ, ◌+◌, ◌*◌, ◌<◌, ◌≤◌, List, [], ◌∷◌, length, refl, ap, arith, Some}
+use Rattle.std.proofs.Common.{◌≡◌, ◌≢◌, ⊎_elim, ℕ, ◌+◌, ◌*◌, ◌<◌, ◌≤◌, List, [], ◌∷◌, length, get_or, refl, ap, arith}
+use Rattle.std.proofs.Common.{Some}
 use Rattle.std.proofs.lemmas.Bool.{cases_eq}
 use Rattle.pt_host.specs.Words.{is, total, Each, set_at, sum_to}
 use Rattle.pt_tables.specs.Change.{Change}
 use Rattle.pt_tables.specs.Tables.{Tables, Agree}
 use Rattle.pt_tables.specs.declared.row.Row.{Row}
 use Rattle.pt_tables.specs.declared.row.HandleRow.{HandleRow}
-use Rattle.pt_tables.specs.Happens.{Happens}
+use Rattle.pt_tables.specs.Happens.{Happens, limit_of}
 use Rattle.pt_tables.proofs.Cases.{Case, cases}
 use Rattle.pt_tables.specs.declared.event.KeptEvent.TheVariants as change
 use Rattle.pt_tables.specs.declared.reply.EventRefusal.TheVariants.{NotLive}
@@ -31,7 +32,7 @@ use Rattle.pt_law.proofs.Holding.{handed}
 
 -- what is there is what tables and jobs have
 pub record Books (bound : ℕ) (t : Tables) (js : ℕ → Job) : Type 0 where
-  pub slots : kept_slots t + all_hold bound slot_held js ≡ t.limit
+  pub slots : (class : ℕ) → kept_slots class t + all_hold bound (slot_held class) js ≡ limit_of t class
   pub pins : (serial : ℕ) → total (row_pins serial) t.rows ≡ all_hold bound (pin_held serial) js
   pub handle_pins : (serial : ℕ) → total (handle_pins serial) t.handles ≡ all_hold bound (handle_pin_held serial) js
   pub closings : length t.closing ≡ sum_to bound (λ j. (js j).owed)
@@ -85,12 +86,13 @@ honest_by bound t js j (change.UnpinHandle row) (event.Refused NotLive) t' after
     let s = is_same row in
     absurd (omega (arith, u, p, q, k, s))
 honest_by bound t js j (change.UnpinHandle row) (event.Refused _) t' after lt b h m = absurd h.0
-honest_by bound t js j change.GiveFd (event.Refused NotLive) t' after lt b h m =
-    let p = b.slots in
-    let q = part slot_held js bound j lt in
-    let k = total_takes slot_held m.0 in
-    absurd (omega (arith, p, q, k, h.2))
-honest_by bound t js j change.GiveFd (event.Refused _) t' after lt b h m = absurd h.0
+honest_by bound t js j (change.GiveFd class) (event.Refused NotLive) t' after lt b h m =
+    let p = b.slots class in
+    let q = part (slot_held class) js bound j lt in
+    let k = total_takes (slot_held class) m.0 in
+    let s = is_same class in
+    absurd (omega (arith, p, q, k, s, h.2))
+honest_by bound t js j (change.GiveFd class) (event.Refused _) t' after lt b h m = absurd h.0
 honest_by bound t js j change.TakeClosing (event.Refused NotLive) t' after lt b h m =
     let p = b.closings in
     let q = le_sum_to (λ i. (js i).owed) bound j lt in
@@ -125,8 +127,8 @@ keeps_books bound t js j (Calls a) told t' after lt agree b g m =
     let f = handed (js j).holds (Calls a) told after.holds m.0 in
     let o = owed_flow (js j) (Calls a) told after m in
     rw (called t a told t' g) (record {
-      slots = let x = b.slots in let y = f.slots in
-          let z = sum_to_set (λ (k : Job). total slot_held k.holds) js j after bound lt in omega (arith, x, y, z);
+      slots = λ c. let x = b.slots c in let y = f.slots c in
+          let z = sum_to_set (λ (k : Job). total (slot_held c) k.holds) js j after bound lt in omega (arith, x, y, z);
       pins = λ s. let x = b.pins s in let y = f.pins s in
           let z = sum_to_set (λ (k : Job). total (pin_held s) k.holds) js j after bound lt in omega (arith, x, y, z);
       handle_pins = λ s. let x = b.handle_pins s in let y = f.handle_pins s in
@@ -138,11 +140,12 @@ keeps_books bound t js j (Calls a) told t' after lt agree b g m =
 keeps_books bound t js j (Changes e) (Event r) t' after lt agree b g m =
     let f = handed (js j).holds (Changes e) (Event r) after.holds m.0 in
     let o = owed_flow (js j) (Changes e) (Event r) after m in
-    let v = moved t e r t' g (honest bound t js j e r t' after lt b g m) in
-    let l = (stays t e r t' g).limit in
+    let v = moved t e r t' agree g (honest bound t js j e r t' after lt b g m) in
+    let limits = (stays t e r t' g).limits in
     record {
-      slots = let x = b.slots in let y = f.slots in let u = v.slots in
-          let z = sum_to_set (λ (k : Job). total slot_held k.holds) js j after bound lt in
+      slots = λ c. let x = b.slots c in let y = f.slots c in let u = v.slots c in
+          let l = ap (λ xs. get_or xs c 0) limits in
+          let z = sum_to_set (λ (k : Job). total (slot_held c) k.holds) js j after bound lt in
           omega (arith, x, y, z, u, l);
       pins = λ s. let x = b.pins s in let y = f.pins s in let u = v.pins s in
           let z = sum_to_set (λ (k : Job). total (pin_held s) k.holds) js j after bound lt in

@@ -1,6 +1,6 @@
 -- Open scopes lie on top of what else is held, whatever is taken or handed over under them.
 use Rattle.std.proofs.Common.{◌≡◌, Bool, true, false, List, [], ◌∷◌, Option, Some, None, refl, sym, ap, subst}
-use Rattle.std.proofs.Common.{if◌then◌else◌}
+use Rattle.std.proofs.Common.{ℕ, if◌then◌else◌}
 use Rattle.pt_host.specs.Words.{Each}
 use Rattle.pt_host.specs.Sorts.{Sort, OpensWith, EndsFd, OfSeat, Plain, sort_of}
 use Rattle.pt_host.specs.declared.ids.Fd.{Fd}
@@ -34,7 +34,7 @@ scope_fd : (one : Hold) → is_scope one ≡ true → fd_in one ≡ None
 scope_fd (hold.Pin row fd) e = absurd (cc)
 scope_fd (hold.HandlePin row fd) e = absurd (cc)
 scope_fd (hold.Fd fd) e = absurd (cc)
-scope_fd hold.Slot e = absurd (cc)
+scope_fd (hold.Slot class) e = absurd (cc)
 scope_fd (hold.Count era number) e = absurd (cc)
 scope_fd hold.Groups e = refl
 scope_fd hold.EffectiveGid e = refl
@@ -76,20 +76,22 @@ covers_closed fd (scope ∷ scopes) (one ∷ holds) c =
     (sym (other_fd fd one c.1)) (c.0, c.1, covers_closed fd scopes holds c.2)
 
 -- a slot
-clear_slotted : (holds : List Hold) → Clear holds → Clear (slotted holds)
-clear_slotted [] c = (refl, tt)
-clear_slotted (one ∷ holds) c = go (is_some_fd (fd_in one)) (clear_slotted holds c.1)
+clear_slotted : (class : ℕ) (holds : List Hold) → Clear holds → Clear (slotted class holds)
+clear_slotted class [] c = (refl, tt)
+clear_slotted class (one ∷ holds) c = go (is_some_fd (fd_in one)) (clear_slotted class holds c.1)
   where
-    go : (b : Bool) → Clear (slotted holds) → Clear (if b then one ∷ hold.Slot ∷ holds else one ∷ slotted holds)
+    go : (b : Bool) → Clear (slotted class holds) →
+        Clear (if b then one ∷ hold.Slot class ∷ holds else one ∷ slotted class holds)
     go true k = (c.0, (refl, c.1))
     go false k = (c.0, k)
 
-covers_slotted : (scopes holds : List Hold) → Covers scopes holds → Covers scopes (slotted holds)
-covers_slotted [] holds c = clear_slotted holds c
-covers_slotted (scope ∷ scopes) [] c = absurd c
-covers_slotted (scope ∷ scopes) (one ∷ holds) c =
-    subst (λ (b : Bool). Covers (scope ∷ scopes) (if b then one ∷ hold.Slot ∷ holds else one ∷ slotted holds))
-    (sym (ap is_some_fd (scope_fd one c.1))) (c.0, c.1, covers_slotted scopes holds c.2)
+covers_slotted : (class : ℕ) (scopes holds : List Hold) → Covers scopes holds → Covers scopes (slotted class holds)
+covers_slotted class [] holds c = clear_slotted class holds c
+covers_slotted class (scope ∷ scopes) [] c = absurd c
+covers_slotted class (scope ∷ scopes) (one ∷ holds) c =
+    subst (λ (b : Bool). Covers (scope ∷ scopes) (if b then one ∷ hold.Slot class ∷ holds else one
+    ∷ slotted class holds))
+    (sym (ap is_some_fd (scope_fd one c.1))) (c.0, c.1, covers_slotted class scopes holds c.2)
 
 -- what the tables take
 clear_unslotted : (holds : List Hold) → Clear holds → Clear (unslotted holds)
@@ -135,7 +137,7 @@ covers_changed (change.Resolve number) (event.Resolved resolved) scopes holds c 
     covers_laid (hold.Pin resolved.row (row_fd resolved.form)) scopes holds refl c
 covers_changed (change.Claim claim) (event.Claimed given) scopes holds c =
     covers_laid (hold.Count claim.era given.number) scopes holds refl c
-covers_changed change.TakeFd event.Taken scopes holds c = covers_slotted scopes holds c
+covers_changed (change.TakeFd class) event.Taken scopes holds c = covers_slotted class scopes holds c
 covers_changed (change.Insert new) (event.Inserted given) scopes holds c =
     covers_laid (hold.Count new.era given) scopes (handed_of (row_fd new.form) holds) refl
     (covers_handed_of (row_fd new.form) scopes holds c)

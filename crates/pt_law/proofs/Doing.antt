@@ -41,7 +41,7 @@ Does P (Allocates made next) = Does P (next made)
 pub record OfReturns (P : Deed → Type 0) : Type 0 where
   pub gives : (seat : HostSeat) (one : Hold) → P (giving seat one)
   pub takes : P (Changes change.TakeClosing)
-  pub slot : P (Changes change.GiveFd)
+  pub slot : (class : ℕ) → P (Changes (change.GiveFd class))
   pub closes : (fd : Fd) → P (Calls (call.Close fd))
 
 module _ (P : Deed → Type 0) (back : OfReturns P) where
@@ -53,9 +53,9 @@ module _ (P : Deed → Type 0) (back : OfReturns P) where
   all_taken : (brings : Taken) (count : ℕ) (holds : List Hold) (rest : Grammar) → All rest →
       All (give_taken brings count holds rest)
   all_taken taken.Nothing count holds rest so = so
-  all_taken taken.Slot count holds rest so = (back.slot, λ told. so)
-  all_taken (taken.Fd fd true) count holds rest so = (back.closes fd, λ told. (back.slot, λ later. so))
-  all_taken (taken.Fd fd false) count holds rest so = (back.closes fd, λ told. so)
+  all_taken (taken.Slot class) count holds rest so = (back.slot class, λ told. so)
+  all_taken (taken.Fd fd true class) count holds rest so = (back.closes fd, λ told. (back.slot class, λ later. so))
+  all_taken (taken.Fd fd false class) count holds rest so = (back.closes fd, λ told. so)
 
   all_closings : (count : ℕ) (holds : List Hold) (rest : Grammar) → All rest → All (closings count holds rest)
   all_closings zero holds rest so = so

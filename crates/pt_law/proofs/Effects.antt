@@ -99,7 +99,15 @@ handle_ends t row after h =
 handle_repinned : (t : Tables) (row : HandleRow) (pins : ℕ) (after : Tables) →
     ChangesRow handle_rows t row (record row { pins = pins }) after → Kept t after
 handle_repinned t row pins after h =
-    handled row _ h.0 h.1 (record { serial = refl; handle = refl; number = refl; fd = refl; live = λ l. l }) h.2
+    handled row _ h.0 h.1 (record {
+      serial = refl;
+      handle = refl;
+      number = refl;
+      fd = refl;
+      class = refl;
+      live = λ l.
+          l;
+    }) h.2
 
 handle_dies : (t : Tables) (row : HandleRow) (n : ℕ) (after : Tables) → Dies handle_rows t row n after → Kept t after
 handle_dies t row n after (inl h) = handle_ends t row after h.2
@@ -109,6 +117,7 @@ handle_dies t row n after (inr h) =
       handle = refl;
       number = refl;
       fd = refl;
+      class = refl;
       live =
           λ l. absurd (cc);
     }) h.2.2
@@ -148,9 +157,9 @@ kept_by t (change.Resolve number) (reply.Resolved resolved) after k h =
 kept_by t (change.Unpin serial) (reply.Done closings) after k h = unpins t serial closings after h
 kept_by t (change.Claim claim) (reply.Claimed given) after k h = given_again t claim.ids given.number after h.1
 kept_by t (change.Claim claim) reply.Absent after k h = nothing h.2
-kept_by t change.TakeFd reply.Taken after k h =
+kept_by t (change.TakeFd class) reply.Taken after k h =
     other (ap (λ (z : Tables). z.rows) h.2) (ap (λ (z : Tables). z.handles) h.2)
-kept_by t change.GiveFd reply.Given after k h =
+kept_by t (change.GiveFd class) reply.Given after k h =
     other (ap (λ (z : Tables). z.rows) h.1) (ap (λ (z : Tables). z.handles) h.1)
 kept_by t change.DrawNode (reply.Drawn number) after k h =
     other (ap (λ (z : Tables). z.rows) h.2) (ap (λ (z : Tables). z.handles) h.2)
@@ -183,7 +192,7 @@ agrees t e r after h a = keeps_agree t after e r h a
 -- counters only grow, and the limit stays
 pub record Stays (t after : Tables) : Type 0 where
   pub era : t.era ≤ after.era
-  pub limit : after.limit ≡ t.limit
+  pub limits : after.limits ≡ t.limits
   pub numbers : t.next_number ≤ after.next_number
   pub handles : t.next_handle ≤ after.next_handle
   pub rows : t.next_row ≤ after.next_row
@@ -191,7 +200,7 @@ pub record Stays (t after : Tables) : Type 0 where
 pub stays_same : (t : Tables) → Stays t t
 stays_same t = record {
   era = omega arith;
-  limit = refl;
+  limits = refl;
   numbers = omega arith;
   handles = omega arith;
   rows = omega arith;
@@ -200,11 +209,11 @@ stays_same t = record {
 stays_effect : {t after : Tables} → Effect t after → Stays t after
 stays_effect {t = t} (unchanged e) = rw e (stays_same t)
 stays_effect {t = t} (counted slots next l m e) =
-    rw e (record { era = omega arith; limit = refl; numbers = m; handles = omega arith; rows = omega arith })
+    rw e (record { era = omega arith; limits = refl; numbers = m; handles = omega arith; rows = omega arith })
 stays_effect {t = t} (row_changed was now rows c l s e) =
     rw e (record {
       era = omega arith;
-      limit = refl;
+      limits = refl;
       numbers = omega arith;
       handles = omega arith;
       rows = omega arith;
@@ -212,7 +221,7 @@ stays_effect {t = t} (row_changed was now rows c l s e) =
 stays_effect {t = t} (row_ended row rows c e) =
     rw e (record {
       era = omega arith;
-      limit = refl;
+      limits = refl;
       numbers = omega arith;
       handles = omega arith;
       rows = omega arith;
@@ -220,17 +229,17 @@ stays_effect {t = t} (row_ended row rows c e) =
 stays_effect {t = t} (added row negotiated n e) =
     rw e (record {
       era = omega arith;
-      limit = refl;
+      limits = refl;
       numbers = omega arith;
       handles = omega arith;
       rows = omega arith;
     })
 stays_effect {t = t} (drawn next l e) =
-    rw e (record { era = omega arith; limit = refl; numbers = omega arith; handles = l; rows = omega arith })
+    rw e (record { era = omega arith; limits = refl; numbers = omega arith; handles = l; rows = omega arith })
 stays_effect {t = t} (handle_changed was now handles c l s e) =
     rw e (record {
       era = omega arith;
-      limit = refl;
+      limits = refl;
       numbers = omega arith;
       handles = omega arith;
       rows = omega arith;
@@ -238,7 +247,7 @@ stays_effect {t = t} (handle_changed was now handles c l s e) =
 stays_effect {t = t} (handle_ended row handles c e) =
     rw e (record {
       era = omega arith;
-      limit = refl;
+      limits = refl;
       numbers = omega arith;
       handles = omega arith;
       rows = omega arith;
@@ -246,17 +255,17 @@ stays_effect {t = t} (handle_ended row handles c e) =
 stays_effect {t = t} (handle_added row n e) =
     rw e (record {
       era = omega arith;
-      limit = refl;
+      limits = refl;
       numbers = omega arith;
       handles = omega arith;
       rows = omega arith;
     })
 stays_effect {t = t} (begun era negotiated l e) =
-    rw e (record { era = l; limit = refl; numbers = omega arith; handles = omega arith; rows = omega arith })
+    rw e (record { era = l; limits = refl; numbers = omega arith; handles = omega arith; rows = omega arith })
 stays_effect {t = t} (shut first closing c e) =
     rw e (record {
       era = omega arith;
-      limit = refl;
+      limits = refl;
       numbers = omega arith;
       handles = omega arith;
       rows = omega arith;
@@ -265,7 +274,7 @@ stays_effect {t = t} (shut first closing c e) =
 pub stays_on : {t mid after : Tables} → Stays t mid → Stays mid after → Stays t after
 stays_on a b = record {
   era = let x = a.era in let y = b.era in omega (arith, x, y);
-  limit = b.limit ∙ a.limit;
+  limits = b.limits ∙ a.limits;
   numbers = let x = a.numbers in let y = b.numbers in omega (arith, x, y);
   handles = let x = a.handles in let y = b.handles in omega (arith, x, y);
   rows = let x = a.rows in let y = b.rows in omega (arith, x, y);

@@ -41,12 +41,12 @@ use Rattle.pt_law.proofs.Knowing.{unless_apart, told_less, ids_less}
 use Rattle.pt_law.proofs.RowEvents.{told_noted}
 
 -- what is held of slots, counts, new descriptors and new pins, and of what was held before, is held after
-each_brought : (P : Hold → Type 0) (b : Taken) (holds : List Hold) → P hold.Slot →
+each_brought : (P : Hold → Type 0) (b : Taken) (holds : List Hold) → ((class : ℕ) → P (hold.Slot class)) →
     ((fd : Fd) → taken_fd b ≡ Some fd → P (hold.Fd fd)) → Each P holds → Each P (brought b ++ holds)
 each_brought P taken.Nothing holds s f h = h
-each_brought P taken.Slot holds s f h = (s, h)
-each_brought P (taken.Fd fd true) holds s f h = (f fd refl, (s, h))
-each_brought P (taken.Fd fd false) holds s f h = (f fd refl, h)
+each_brought P (taken.Slot class) holds s f h = (s class, h)
+each_brought P (taken.Fd fd true class) holds s f h = (f fd refl, (s class, h))
+each_brought P (taken.Fd fd false class) holds s f h = (f fd refl, h)
 
 -- the event gives a number of this era
 abbrev pub IsOfEra : Change → ℕ → Type 0
@@ -55,7 +55,8 @@ IsOfEra (change.Insert new) own = own ≡ new.era
 IsOfEra e own = ⊥
 
 pub holds_event : (P : Hold → Type 0) (holds : List Hold) (e : Change) (r : EventReply) (after : List Hold) →
-    Shifts holds (Changes e) (Event r) after → P hold.Slot → ((era n : ℕ) → IsOfEra e era → P (hold.Count era n)) →
+    Shifts holds (Changes e) (Event r) after → ((class : ℕ) → P (hold.Slot class)) →
+    ((era n : ℕ) → IsOfEra e era → P (hold.Count era n)) →
     ((fd : Fd) → e ≡ change.TakeClosing → taken_fd (taken_in (Event r)) ≡ Some fd → P (hold.Fd fd)) →
     ((number : ℕ) (resolved : Resolved) → e ≡ change.Resolve number → r ≡ event.Resolved resolved →
     P (hold.Pin resolved.row (row_fd resolved.form))) →
@@ -66,8 +67,8 @@ holds_event P holds (change.Resolve number) (event.Resolved resolved) after m s 
 holds_event P holds (change.Unpin row) r after m s c f p q h = each_takes P m.1 h
 holds_event P holds (change.Claim claim) (event.Claimed given) after m s c f p q h =
     each_put P m (c claim.era given.number refl) h
-holds_event P holds change.TakeFd event.Taken after m s c f p q h = each_put P m s h
-holds_event P holds change.GiveFd r after m s c f p q h = each_takes P m h
+holds_event P holds (change.TakeFd class) event.Taken after m s c f p q h = each_put P m (s class) h
+holds_event P holds (change.GiveFd class) r after m s c f p q h = each_takes P m h
 holds_event P holds (change.Insert new) (event.Inserted given) after m s c f p q h =
     each_put P m.4 (c new.era given refl) (each_takes P m.3 (each_takes P m.2 h))
 holds_event P holds (change.Insert new) (event.Found given) after m s c f p q h =
@@ -126,7 +127,7 @@ grows tree past t j (change.Claim claim) (event.Claimed given) t' a h =
     record { latest = refl; roots = refl; fds = λ row k. refl; objects = λ row k. refl; rows = l }
 grows tree past t j (change.InsertRoot new) (event.Inserted given) t' a h =
     grows_settled past given t.next_row t'.next_row (fd_of new.form) (past.roots j)
-    (rw h.4 (next_agreed new.negotiated t (new_row t 1 new.form new.ids new.mode 2)))
+    (rw h.4 (next_agreed new.negotiated t (new_row t 1 new.form new.ids new.mode 0 2)))
 grows tree past t j (change.InsertHandle new) (event.Inserted given) t' a h = record {
   latest = refl;
   roots = refl;
@@ -425,7 +426,7 @@ brought_untold job after e r m fd x y =
 told_event : (tree : Tree) (job after : Job) (e : Change) (r : EventReply) → MovesBy job (Changes e) (Event r) after →
     Each (ToldRight tree (Tells job.notes)) job.holds → Each (ToldRight tree (Tells after.notes)) after.holds
 told_event tree job after e r m t =
-    holds_event (ToldRight tree (Tells after.notes)) job.holds e r after.holds m.0 tt (λ era n own. tt)
+    holds_event (ToldRight tree (Tells after.notes)) job.holds e r after.holds m.0 (λ class. tt) (λ era n own. tt)
     (λ fd x y. λ ids q. absurd (q.1 (brought_untold job after e r m fd x y)))
     (λ number resolved x y. tt) (λ handle number row fd x y. tt)
     (each_map (ToldRight tree (Tells job.notes)) (ToldRight tree (Tells after.notes)) job.holds
@@ -437,7 +438,8 @@ ids_event : (tree : Tree) (ids : ObjIds) (was : Option ℕ) (job after : Job) (e
     MovesBy job (Changes e) (Event r) after → Each (IdsRight tree (Tells job.notes) ids was) job.holds →
     Each (IdsRight tree (Tells after.notes) ids was) after.holds
 ids_event tree ids was job after e r m h =
-    holds_event (IdsRight tree (Tells after.notes) ids was) job.holds e r after.holds m.0 tt (λ era n own. tt)
+    holds_event (IdsRight tree (Tells after.notes) ids was) job.holds e r after.holds m.0 (λ class. tt)
+    (λ era n own. tt)
     (λ fd x y. λ q. absurd (q.1 (brought_untold job after e r m fd x y)))
     (λ number resolved x y. tt) (λ handle number row fd x y. tt)
     (each_map (IdsRight tree (Tells job.notes) ids was) (IdsRight tree (Tells after.notes) ids was) job.holds
@@ -562,7 +564,7 @@ knows_event tree past t j job after e r t' well a h m rows handles k =
     let g = grows tree past t j e r t' a h in
     record {
       told = told_event tree job after e r m k.told;
-      pins = holds_event (PinRight t'.next_row later.fds) job.holds e r after.holds m.0 tt (λ era n own. tt)
+      pins = holds_event (PinRight t'.next_row later.fds) job.holds e r after.holds m.0 (λ class. tt) (λ era n own. tt)
           (λ fd x y. tt)
           (λ number resolved x y.
           pin_grows past later t.next_row t'.next_row (hold.Pin resolved.row (row_fd resolved.form)) g

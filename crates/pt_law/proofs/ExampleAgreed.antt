@@ -35,8 +35,11 @@ clearings =
     turn_by 1 (made (Changes change.Clear) (Event (event.Cleared 1 0)))
     ∷ turn_by 0 (made (Changes change.Clear) (Event (event.Cleared 2 0))) ∷ []
 
+abbrev fresh : Tables
+fresh = empty_tables (5 ∷ [])
+
 abbrev at_era : ℕ → Tables
-at_era era = record (empty_tables 5) { era = era; negotiated = nothing_agreed }
+at_era era = record fresh { era = era; negotiated = nothing_agreed }
 
 module _ (form : RowForm) (ids : ObjIds) (mode : ℕ) where
   abbrev root : ℕ → Negotiated → Change
@@ -57,12 +60,12 @@ module _ (form : RowForm) (ids : ObjIds) (mode : ℕ) where
       ∷ turn_by 1 (made (Changes (root 1 group_told)) (Event (event.Refused Overtaken))) ∷ []
 
   abbrev rooted : Tables
-  rooted = agreed (Some writes_kept) (with_row (at_era 2) (new_row (at_era 2) 1 form ids mode 2))
+  rooted = agreed (Some writes_kept) (with_row (at_era 2) (new_row (at_era 2) 1 form ids mode 0 2))
 
-  pub runs : TablesRun (empty_tables 5) turns rooted
+  pub runs : TablesRun fresh turns rooted
   runs = (
     at_era 1,
-    inl (omega arith, (0, refl, (empty_tables 5, empty_tables 5, 0, 0, none_dies tt, none_dies tt, refl, refl))),
+    inl (omega arith, (0, refl, (fresh, fresh, 0, 0, none_dies tt, none_dies tt, refl, refl))),
     (
       at_era 2,
       inl (omega arith, (0, refl, (at_era 1, at_era 1, 0, 0, none_dies tt, none_dies tt, refl, refl))),

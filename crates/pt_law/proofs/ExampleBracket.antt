@@ -17,18 +17,18 @@ done = finish.Answer answer.Done
 
 -- a bracket in which a slot was taken, which gives back what lies above so many holds
 abbrev bracket : HostSeat → ℕ → Grammar
-bracket seat mark = shut seat None mark (hold.Slot ∷ []) (λ left. End done)
+bracket seat mark = shut seat None mark (hold.Slot 0 ∷ []) (λ left. End done)
 
 pub ends_too_soon : (seat : HostSeat) → Belongs (bracket seat 1) [] done
 ends_too_soon seat = refl
 
-pub is_refused : (seat : HostSeat) (notes : Notes) → Sound (bracket seat 1) (at_job (hold.Slot ∷ []) notes) → ⊥
+pub is_refused : (seat : HostSeat) (notes : Notes) → Sound (bracket seat 1) (at_job (hold.Slot 0 ∷ []) notes) → ⊥
 is_refused seat notes s = let e = s.0.1 in absurd (cc)
 
-pub comes_to_no_end : (notes : Notes) → ComesToEnd (at_job (hold.Slot ∷ []) notes) [] done → ⊥
+pub comes_to_no_end : (notes : Notes) → ComesToEnd (at_job (hold.Slot 0 ∷ []) notes) [] done → ⊥
 comes_to_no_end notes e = let same = ap (λ (j : Job). j.holds) e.2 in absurd (cc)
 
 pub is_allowed : (seat : HostSeat) (notes : Notes) → notes.brought ≡ None →
-    Sound (bracket seat 0) (at_job (hold.Slot ∷ []) notes)
+    Sound (bracket seat 0) (at_job (hold.Slot 0 ∷ []) notes)
 is_allowed seat notes none =
-    sound_shut seat None 0 (hold.Slot ∷ []) (λ left. End done) notes none (λ later l. ((0, refl), refl))
+    sound_shut seat None 0 (hold.Slot 0 ∷ []) (λ left. End done) notes none (λ later l. ((0, refl), refl))

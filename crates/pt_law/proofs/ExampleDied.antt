@@ -28,6 +28,7 @@ module _ (world : World) (kept new : Fd) (ids : ObjIds) (mode : ℕ) where
     form = File kept;
     ids = ids;
     mode = mode;
+    class = 0;
     count = 0;
     pins = 1;
     live = false;
@@ -49,7 +50,7 @@ module _ (world : World) (kept new : Fd) (ids : ObjIds) (mode : ℕ) where
       record { object = 0; its = inserted; open_on = on; of_number = λ live. absurd (is_not_live live) }
 
   abbrev its_row : Resolved
-  its_row = record { row = 7; form = File kept; ids = ids; mode = mode }
+  its_row = record { row = 7; form = File kept; ids = ids; mode = mode; class = 0 }
 
   -- a job resolved it
   abbrev steps : List Step

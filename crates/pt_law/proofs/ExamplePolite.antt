@@ -19,7 +19,7 @@ use Rattle.pt_law.specs.World.{made, Turn, turn_by}
 abbrev given_to : ObjIds → Turn
 given_to ids = turn_by 0
     (made (Changes (change.Claim (record { era = 0; handle = None; ids = ids })))
-    (Event (event.Claimed (record { number = 2 }))))
+    (Event (event.Claimed (record { number = 2; class = 0 }))))
 
 -- it goes on
 abbrev goes_on : Turn

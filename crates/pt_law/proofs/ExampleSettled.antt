@@ -49,7 +49,7 @@ done = finish.Answer answer.Done
 module _ (ids : ObjIds) where
   abbrev claiming : Step
   claiming = made (Changes (change.Claim (record { era = 0; handle = None; ids = ids })))
-      (Event (event.Claimed (record { number = 2 })))
+      (Event (event.Claimed (record { number = 2; class = 0 })))
 
   abbrev giving : ℕ → Step
   giving era = made (Changes (change.GiveBack era 2)) (Event (event.Done 0))

@@ -1,6 +1,5 @@
 -- A job begins, and then another clears the session. What the first asks for in its era is refused as overtaken, and
--- no
--- number is given to it.
+-- no number is given to it.
 use Rattle.std.proofs.Common.{inl, inr, ℕ, List, [], ◌∷◌, refl, arith, None, Some}
 use Rattle.pt_host.specs.declared.ids.ObjIds.{ObjIds}
 use Rattle.pt_tables.specs.Change.{Change}
@@ -16,21 +15,24 @@ use Rattle.pt_frame.specs.declared.act.ActReply.TheVariants.{Event}
 use Rattle.pt_law.specs.World.{made, Turn, turn_by, TablesGo, TablesRun}
 use Rattle.pt_law.specs.Laws.{IsOvertaken}
 
+abbrev fresh : Tables
+fresh = empty_tables (5 ∷ [])
+
 abbrev cleared : Tables
-cleared = record (empty_tables 5) { era = 1; negotiated = nothing_agreed }
+cleared = record fresh { era = 1; negotiated = nothing_agreed }
 
 abbrev turns : List Turn
 turns =
     turn_by 1 (made (Changes change.Begin) (Event (event.Began 0 nothing_agreed)))
     ∷ turn_by 0 (made (Changes change.Clear) (Event (event.Cleared 1 0))) ∷ []
 
-pub runs : TablesRun (empty_tables 5) turns cleared
+pub runs : TablesRun fresh turns cleared
 runs = (
-  empty_tables 5,
+  fresh,
   (refl, refl),
   (
     cleared,
-    inl (omega arith, (0, refl, (empty_tables 5, empty_tables 5, 0, 0, none_dies tt, none_dies tt, refl, refl))),
+    inl (omega arith, (0, refl, (fresh, fresh, 0, 0, none_dies tt, none_dies tt, refl, refl))),
     refl,
   ),
 )

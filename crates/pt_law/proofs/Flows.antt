@@ -18,12 +18,12 @@ use Rattle.pt_law.specs.Ledger.{form_slot}
 
 -- slots that a job hands to the tables, where giving one back is not refused
 
-abbrev pub slot_in : Deed → ActReply → ℕ
-slot_in (Changes change.GiveFd) told = 1
-slot_in (Changes (change.Insert new)) (Event (event.Inserted given)) = form_slot new.form
-slot_in (Changes (change.InsertRoot new)) (Event (event.Inserted given)) = form_slot new.form
-slot_in (Changes (change.InsertHandle new)) (Event (event.Inserted given)) = 1
-slot_in deed told = 0
+abbrev pub slot_in : ℕ → Deed → ActReply → ℕ
+slot_in class (Changes (change.GiveFd its)) told = is its class
+slot_in class (Changes (change.Insert new)) (Event (event.Inserted given)) = form_slot class new.class new.form
+slot_in class (Changes (change.InsertRoot new)) (Event (event.Inserted given)) = form_slot class 0 new.form
+slot_in class (Changes (change.InsertHandle new)) (Event (event.Inserted given)) = is new.class class
+slot_in class deed told = 0
 
 -- what holds weigh
 
@@ -39,9 +39,9 @@ abbrev pub handle_pin_held : ℕ → Hold → ℕ
 handle_pin_held serial (hold.HandlePin row fd) = is row serial
 handle_pin_held serial _ = 0
 
-abbrev pub slot_held : Hold → ℕ
-slot_held hold.Slot = 1
-slot_held _ = 0
+abbrev pub slot_held : ℕ → Hold → ℕ
+slot_held class (hold.Slot its) = is its class
+slot_held class _ = 0
 
 -- what the tables have
 abbrev pub row_pins : ℕ → Row → ℕ
@@ -54,7 +54,7 @@ handle_pins serial row = is row.serial serial * row.pins
 abbrev pub IsHonest : Deed → ActReply → Type 0
 IsHonest (Changes (change.Unpin row)) (Event (event.Refused why)) = ⊥
 IsHonest (Changes (change.UnpinHandle row)) (Event (event.Refused why)) = ⊥
-IsHonest (Changes change.GiveFd) (Event (event.Refused why)) = ⊥
+IsHonest (Changes (change.GiveFd class)) (Event (event.Refused why)) = ⊥
 IsHonest (Changes change.TakeClosing) (Event (event.Refused why)) = ⊥
 IsHonest deed told = Unit {0}
 

@@ -46,9 +46,9 @@ in_full seat (May one other) so_far steps end g t n b = absurd g
 taken_lasts : (brings : Taken) (count : ℕ) (holds : List Hold) (rest : Grammar) → Lasting rest →
     Lasting (give_taken brings count holds rest)
 taken_lasts taken.Nothing count holds rest g = g
-taken_lasts taken.Slot count holds rest g = λ told t n. g
-taken_lasts (taken.Fd fd true) count holds rest g = λ told t n other u m. g
-taken_lasts (taken.Fd fd false) count holds rest g = λ told t n. g
+taken_lasts (taken.Slot class) count holds rest g = λ told t n. g
+taken_lasts (taken.Fd fd true class) count holds rest g = λ told t n other u m. g
+taken_lasts (taken.Fd fd false class) count holds rest g = λ told t n. g
 
 closings_last : (count : ℕ) (holds : List Hold) (next : Grammar) → Lasting next → Lasting (closings count holds next)
 closings_last zero holds next g = g

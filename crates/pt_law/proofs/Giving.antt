@@ -186,7 +186,7 @@ gives_live t t' number (Some (Changes (change.Insert new))) (Event (event.Found 
     subst (IsLive t') b (again_live t new.ids given.number t' h.1)
 gives_live t t' number (Some (Changes (change.Insert new))) (Event (event.Inserted given)) b g =
     let h = cases t t' (change.Insert new) (event.Inserted given) g in
-    let row : Row = new_row t new.number new.form new.ids new.mode 1 in
+    let row : Row = new_row t new.number new.form new.ids new.mode new.class 1 in
     (row, subst (λ (z : Tables). IsRow z row) (sym h.4) (t.rows, here), (refl, sym h.3 ∙ b))
 gives_live t t' number _ _ b g = absurd b
 
@@ -198,12 +198,12 @@ gives_that era number ids (Some (Changes (change.Insert new))) (Event (event.Ins
 gives_that era number ids _ _ b = absurd b
 
 -- a number that is given for an object is the one that lives for it
-pub two_lookups_law : (limit bound : ℕ) (turns between more : List Turn) (start first second : World)
-    (job number another object : ℕ) → Starts limit start → AreDisciplined bound ((turns ++ between) ++ more) →
+pub two_lookups_law : (limits : List ℕ) (bound : ℕ) (turns between more : List Turn) (start first second : World)
+    (job number another object : ℕ) → Starts limits start → AreDisciplined bound ((turns ++ between) ++ more) →
     Runs start turns first → Runs first between second → StaysLive first between number →
     WasGiven (turns ++ between) job another → ObjectOf first number object → ObjectOf second another object →
     another ≡ number
-two_lookups_law limit bound turns between more start first second job number another object s d r k live gave stands
+two_lookups_law limits bound turns between more start first second job number another object s d r k live gave stands
     has =
     let turn = turn_by job gave.1 in
     let whole = runs_append turns between start first second r k in
@@ -214,5 +214,5 @@ two_lookups_law limit bound turns between more start first second job number ano
     let lives : IsLive second.tables another =
     subst (λ (w : World). IsLive w.tables another) (sym cut.2.2)
     (gives_live cut.0.tables cut.2.0.tables another gave.1.deed gave.1.reply gave.2 t) in
-    one_number_law limit bound turns between more start first second number another object s d r k live stands lives
+    one_number_law limits bound turns between more start first second number another object s d r k live stands lives
     has

@@ -208,15 +208,15 @@ counts_by n t (change.Unpin serial) (event.Done closings) after a h = unpins n t
 counts_by n t (change.Claim claim) (event.Claimed given) after a h = let g = h.1 in
     rises n given.number t g.0 after g.1.0 g.2 g.4
 counts_by n t (change.Claim claim) event.Absent after a h = ap (live_count n) h.2
-counts_by n t change.TakeFd event.Taken after a h = ap (live_count n) h.2
-counts_by n t change.GiveFd event.Given after a h = ap (live_count n) h.1
+counts_by n t (change.TakeFd class) event.Taken after a h = ap (live_count n) h.2
+counts_by n t (change.GiveFd class) event.Given after a h = ap (live_count n) h.1
 counts_by n t change.DrawNode (event.Drawn number) after a h = ap (live_count n) h.2
 counts_by n t (change.Insert new) (event.Inserted given) after a h =
     rw h.4 (let e = ap (λ i. is i n) h.3 in omega (arith, e))
 counts_by n t (change.Insert new) (event.Found given) after a h = let g = h.1 in
     rises n given.number t g.0 after g.1.0 g.2 g.4
 counts_by n t (change.InsertRoot new) (event.Inserted given) after a h =
-    ap (live_count n) h.4 ∙ said n new.negotiated (with_row t (new_row t 1 new.form new.ids new.mode 2))
+    ap (live_count n) h.4 ∙ said n new.negotiated (with_row t (new_row t 1 new.form new.ids new.mode 0 2))
     ∙ (let e = ap (λ i. is i n) h.3 in omega (arith, e))
 counts_by n t (change.Forget list) (event.Done closings) after a h = counts_all n t list closings after a h
 counts_by n t (change.GiveBack era number) (event.Done closings) after a h =

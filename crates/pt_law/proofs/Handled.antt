@@ -164,12 +164,12 @@ settled_stands past i None told next tree j number object z h = h
 settled_stands past i (Some _) _ next tree j number object z h = h
 
 -- a number that is live was inserted
-pub live_inserted : (limit : ℕ) (turns : List Turn) (now : Tables) (number : ℕ) →
-    TablesRun (empty_tables limit) turns now → IsLive now number → 0 < inserted number turns
-live_inserted limit turns now number r l = ⊎_elim
+pub live_inserted : (limits : List ℕ) (turns : List Turn) (now : Tables) (number : ℕ) →
+    TablesRun (empty_tables limits) turns now → IsLive now number → 0 < inserted number turns
+live_inserted limits turns now number r l = ⊎_elim
     (λ (z : inserted number turns ≡ 0).
-    let none : NoRow now (HasNumber number) = stays_gone number turns (empty_tables limit) now
-    (agree_law limit [] (empty_tables limit) refl) refl r z in
+    let none : NoRow now (HasNumber number) = stays_gone number turns (empty_tables limits) now
+    (agree_law limits [] (empty_tables limits) refl) refl r z in
     absurd (each_taken (λ row. HasNumber number row → ⊥) l.1.1 none l.2))
     (λ (n : inserted number turns ≢ 0). omega (arith, n))
     (cases_eq (inserted number turns) 0)

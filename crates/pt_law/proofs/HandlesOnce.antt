@@ -152,14 +152,14 @@ handles_keep bound had (s ∷ ss) t last js ends r lt v d n =
     (after_step bound js ends s ss mine.0 d mine.2) n in
     omega (arith, a)
 
-pub handles_once_law : (limit bound : ℕ) (turns more : List Turn) (now : Tables) (handle : ℕ) →
-    AreDisciplined bound (turns ++ more) → TablesRun (empty_tables limit) turns now → handle_inserted handle turns ≤ 1
-handles_once_law limit bound turns more now handle a r =
+pub handles_once_law : (limits : List ℕ) (bound : ℕ) (turns more : List Turn) (now : Tables) (handle : ℕ) →
+    AreDisciplined bound (turns ++ more) → TablesRun (empty_tables limits) turns now → handle_inserted handle turns ≤ 1
+handles_once_law limits bound turns more now handle a r =
     let ends = choose (λ j job.
     Between (steps_of j turns) (steps_of j more) job) bound idle (between bound turns more a) in
     let still = sum_to_zero (λ j. 0) bound (λ j l. refl) in
-    let none : Handles bound (λ n. 0) (empty_tables limit) (λ j. idle) =
+    let none : Handles bound (λ n. 0) (empty_tables limits) (λ j. idle) =
     record { once = λ n. omega (arith, still); fresh = λ n l. omega (arith, still) } in
-    let h = handles_keep bound (λ n. 0) turns (empty_tables limit) now (λ j.
+    let h = handles_keep bound (λ n. 0) turns (empty_tables limits) now (λ j.
     idle) ends.0 r (each_front (λ s. s.job < bound) turns more a.owners) none (λ j l. (ends.1 j l).0) handle in
     omega (arith, h)

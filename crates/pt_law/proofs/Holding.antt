@@ -40,7 +40,9 @@ pub record Handed (holds : List Hold) (deed : Deed) (told : ActReply) (after : L
   pub fds : (fd : ℕ) →
       total (fd_held fd) after + fd_handed fd deed told + fd_ended fd deed told
       ≡ total (fd_held fd) holds + fd_received fd deed told + fd_made fd deed told
-  pub slots : total slot_held after + slot_in deed told ≡ total slot_held holds + slot_taken deed told
+  pub slots : (class : ℕ) →
+      total (slot_held class) after + slot_in class deed told
+      ≡ total (slot_held class) holds + slot_taken class deed told
   pub pins : (serial : ℕ) →
       total (pin_held serial) after + pin_ended serial deed told
       ≡ total (pin_held serial) holds + pin_made serial deed told
@@ -50,25 +52,27 @@ pub record Handed (holds : List Hold) (deed : Deed) (told : ActReply) (after : L
 
 keeps : (deed : Deed) (told : ActReply) (holds after : List Hold) → after ≡ holds →
     ((fd : ℕ) → fd_handed fd deed told + fd_ended fd deed told ≡ fd_received fd deed told + fd_made fd deed told) →
-    slot_in deed told ≡ slot_taken deed told → ((serial : ℕ) → pin_ended serial deed told ≡ pin_made serial deed told) →
+    ((class : ℕ) → slot_in class deed told ≡ slot_taken class deed told) →
+    ((serial : ℕ) → pin_ended serial deed told ≡ pin_made serial deed told) →
     ((serial : ℕ) → handle_pin_ended serial deed told ≡ handle_pin_made serial deed told) →
     Handed holds deed told after
 keeps deed told holds after e f s p q = rw e (record {
   fds = λ fd. let a = f fd in omega (arith, a);
-  slots = omega (arith, s);
+  slots = λ k. let a = s k in omega (arith, a);
   pins = λ k. let a = p k in omega (arith, a);
   handle_pins = λ k. let a = q k in omega (arith, a);
 })
 
 gains : (deed : Deed) (told : ActReply) {one : Hold} {holds after : List Hold} → Takes one after holds →
     ((fd : ℕ) → fd_held fd one + fd_handed fd deed told + fd_ended fd deed told
-    ≡ fd_received fd deed told + fd_made fd deed told) → slot_held one + slot_in deed told ≡ slot_taken deed told →
+    ≡ fd_received fd deed told + fd_made fd deed told) →
+    ((class : ℕ) → slot_held class one + slot_in class deed told ≡ slot_taken class deed told) →
     ((serial : ℕ) → pin_held serial one + pin_ended serial deed told ≡ pin_made serial deed told) →
     ((serial : ℕ) → handle_pin_held serial one + handle_pin_ended serial deed told
     ≡ handle_pin_made serial deed told) → Handed holds deed told after
 gains deed told t f s p q = record {
   fds = λ fd. let a = f fd in let b = total_takes (fd_held fd) t in omega (arith, a, b);
-  slots = let b = total_takes slot_held t in omega (arith, s, b);
+  slots = λ k. let a = s k in let b = total_takes (slot_held k) t in omega (arith, a, b);
   pins = λ k. let a = p k in let b = total_takes (pin_held k) t in omega (arith, a, b);
   handle_pins = λ k. let a = q k in let b = total_takes (handle_pin_held k) t in omega (arith, a, b);
 }
@@ -76,34 +80,34 @@ gains deed told t f s p q = record {
 loses : (deed : Deed) (told : ActReply) {one : Hold} {holds after : List Hold} → Takes one holds after →
     ((fd : ℕ) → fd_handed fd deed told + fd_ended fd deed told
     ≡ fd_held fd one + fd_received fd deed told + fd_made fd deed told) →
-    slot_in deed told ≡ slot_held one + slot_taken deed told →
+    ((class : ℕ) → slot_in class deed told ≡ slot_held class one + slot_taken class deed told) →
     ((serial : ℕ) → pin_ended serial deed told ≡ pin_held serial one + pin_made serial deed told) →
     ((serial : ℕ) → handle_pin_ended serial deed told
     ≡ handle_pin_held serial one + handle_pin_made serial deed told) → Handed holds deed told after
 loses deed told t f s p q = record {
   fds = λ fd. let a = f fd in let b = total_takes (fd_held fd) t in omega (arith, a, b);
-  slots = let b = total_takes slot_held t in omega (arith, s, b);
+  slots = λ k. let a = s k in let b = total_takes (slot_held k) t in omega (arith, a, b);
   pins = λ k. let a = p k in let b = total_takes (pin_held k) t in omega (arith, a, b);
   handle_pins = λ k. let a = q k in let b = total_takes (handle_pin_held k) t in omega (arith, a, b);
 }
 
-abbrev first_is : Fd → Bool → ActReply
-first_is fd slot = Event (event.Closing (record { fd = fd; slot = slot }))
+abbrev first_is : Fd → Bool → ℕ → ActReply
+first_is fd slot class = Event (event.Closing (record { fd = fd; slot = slot; class = class }))
 
-brings : (fd : Fd) (slot : Bool) (holds after : List Hold) →
-    after ≡ brought (taken_in (first_is fd slot)) ++ holds →
-    Handed holds (Changes change.TakeClosing) (first_is fd slot) after
-brings fd true holds after e =
+brings : (fd : Fd) (slot : Bool) (class : ℕ) (holds after : List Hold) →
+    after ≡ brought (taken_in (first_is fd slot class)) ++ holds →
+    Handed holds (Changes change.TakeClosing) (first_is fd slot class) after
+brings fd true class holds after e =
     rw e (record {
       fds = λ k. omega arith;
-      slots = omega arith;
+      slots = λ k. omega arith;
       pins = λ k. omega arith;
       handle_pins = λ k. omega arith;
     })
-brings fd false holds after e =
+brings fd false class holds after e =
     rw e (record {
       fds = λ k. omega arith;
-      slots = omega arith;
+      slots = λ k. omega arith;
       pins = λ k. omega arith;
       handle_pins = λ k. omega arith;
     })
@@ -131,8 +135,8 @@ others_called w z OfSeat names told holds after m = ap (total w) m.1
 others_called w z Plain names told holds after m = ap (total w) m.1
 
 -- the row takes the slot that was held
-form_held : (form : RowForm) → form_slot form ≡ 1
-form_held (File fd) = refl
+form_held : (class its : ℕ) (form : RowForm) → form_slot class its form ≡ is its class
+form_held class its (File fd) = refl
 
 -- a call, by its sort
 handed_called : (asked : Call) (sort : Sort) → sort_of asked ≡ sort → (names : List Fd) (told : ActReply)
@@ -141,7 +145,7 @@ handed_called asked sort e names told holds after m = record {
   fds = λ fd. let a = fds_called fd sort names told holds after m in
       let b = ap (λ (s : Sort). fd_opened fd s told) e in let c = ap (λ (s : Sort). fd_closed fd s) e in
       omega (arith, a, b, c);
-  slots = let a = others_called slot_held (λ fd. refl) sort names told holds after m in omega (arith, a);
+  slots = λ k. let a = others_called (slot_held k) (λ fd. refl) sort names told holds after m in omega (arith, a);
   pins = λ k. let a = others_called (pin_held k) (λ fd. refl) sort names told holds after m in
       omega (arith, a);
   handle_pins = λ k. let a = others_called (handle_pin_held k) (λ fd. refl) sort names told holds after m
@@ -153,31 +157,37 @@ pub handed : (holds : List Hold) (deed : Deed) (told : ActReply) (after : List H
     Handed holds deed told after
 handed holds (Calls asked) told after m =
     handed_called asked (sort_of asked) refl (fds_of asked) told holds after m
-handed holds (Changes change.Begin) told after m = keeps _ _ holds after m (λ _. refl) refl (λ _. refl) (λ _. refl)
+handed holds (Changes change.Begin) told after m = keeps _ _ holds after m (λ _. refl) (λ _. refl) (λ _. refl)
+    (λ _. refl)
 handed holds (Changes (change.Resolve number)) (Event (event.Resolved resolved)) after m =
     gains (Changes (change.Resolve number)) (Event (event.Resolved resolved)) m (λ _.
-    omega arith) (omega arith) (λ _. omega arith) (λ _. omega arith)
+    omega arith) (λ _. omega arith) (λ _. omega arith) (λ _. omega arith)
 handed holds (Changes (change.Resolve number)) told after m =
-    keeps _ _ holds after m (λ _. refl) refl (λ _. refl) (λ _. refl)
+    keeps _ _ holds after m (λ _. refl) (λ _. refl) (λ _. refl) (λ _. refl)
 handed holds (Changes (change.Unpin row)) told after m =
-    loses (Changes (change.Unpin row)) told m.1 (λ _. omega arith) (omega arith) (λ _. omega arith) (λ _. omega arith)
+    loses (Changes (change.Unpin row)) told m.1 (λ _. omega arith) (λ _. omega arith) (λ _. omega arith)
+    (λ _. omega arith)
 handed holds (Changes (change.Claim claim)) (Event (event.Claimed given)) after m =
     gains (Changes (change.Claim claim)) (Event (event.Claimed given)) m (λ _.
-    omega arith) (omega arith) (λ _. omega arith) (λ _. omega arith)
+    omega arith) (λ _. omega arith) (λ _. omega arith) (λ _. omega arith)
 handed holds (Changes (change.Claim claim)) told after m =
-    keeps _ _ holds after m (λ _. refl) refl (λ _. refl) (λ _. refl)
-handed holds (Changes change.TakeFd) (Event event.Taken) after m =
-    gains (Changes change.TakeFd) (Event event.Taken) m (λ _. omega arith) (omega arith) (λ _. omega arith) (λ _.
+    keeps _ _ holds after m (λ _. refl) (λ _. refl) (λ _. refl) (λ _. refl)
+handed holds (Changes (change.TakeFd class)) (Event event.Taken) after m =
+    gains (Changes (change.TakeFd class)) (Event event.Taken) m (λ _. omega arith) (λ _. omega arith)
+    (λ _. omega arith) (λ _.
     omega arith)
-handed holds (Changes change.TakeFd) told after m = keeps _ _ holds after m (λ _. refl) refl (λ _. refl) (λ _. refl)
-handed holds (Changes change.GiveFd) told after m =
-    loses (Changes change.GiveFd) told m (λ _. omega arith) (omega arith) (λ _. omega arith) (λ _. omega arith)
-handed holds (Changes change.DrawNode) told after m = keeps _ _ holds after m (λ _. refl) refl (λ _. refl) (λ _. refl)
+handed holds (Changes (change.TakeFd class)) told after m = keeps _ _ holds after m (λ _. refl) (λ _. refl)
+    (λ _. refl) (λ _. refl)
+handed holds (Changes (change.GiveFd class)) told after m =
+    loses (Changes (change.GiveFd class)) told m (λ _. omega arith) (λ _. omega arith) (λ _. omega arith)
+    (λ _. omega arith)
+handed holds (Changes change.DrawNode) told after m = keeps _ _ holds after m (λ _. refl) (λ _. refl) (λ _. refl)
+    (λ _. refl)
 handed holds (Changes (change.Insert new)) (Event (event.Inserted given)) after m = record {
   fds = λ f. let a = total_takes (fd_held f) m.2 in let b = total_takes (fd_held f) m.3 in
       let c = total_takes (fd_held f) m.4 in omega (arith, a, b, c);
-  slots = let a = total_takes slot_held m.2 in let b = total_takes slot_held m.3 in
-      let c = total_takes slot_held m.4 in let d = form_held new.form in omega (arith, a, b, c, d);
+  slots = λ k. let a = total_takes (slot_held k) m.2 in let b = total_takes (slot_held k) m.3 in
+      let c = total_takes (slot_held k) m.4 in let d = form_held k new.class new.form in omega (arith, a, b, c, d);
   pins = λ k. let a = total_takes (pin_held k) m.2 in let b = total_takes (pin_held k) m.3 in
       let c = total_takes (pin_held k) m.4 in omega (arith, a, b, c);
   handle_pins = λ k. let a = total_takes (handle_pin_held k) m.2 in let b = total_takes (handle_pin_held k) m.3 in
@@ -185,50 +195,51 @@ handed holds (Changes (change.Insert new)) (Event (event.Inserted given)) after 
 }
 handed holds (Changes (change.Insert new)) (Event (event.Found given)) after m =
     gains (Changes (change.Insert new)) (Event (event.Found given)) m (λ _.
-    omega arith) (omega arith) (λ _. omega arith) (λ _. omega arith)
+    omega arith) (λ _. omega arith) (λ _. omega arith) (λ _. omega arith)
 handed holds (Changes (change.Insert new)) told after m =
-    keeps _ _ holds after m (λ _. refl) refl (λ _. refl) (λ _. refl)
+    keeps _ _ holds after m (λ _. refl) (λ _. refl) (λ _. refl) (λ _. refl)
 handed holds (Changes (change.InsertRoot new)) (Event (event.Inserted given)) after m = record {
   fds = λ f. let a = total_takes (fd_held f) m.1 in let b = total_takes (fd_held f) m.2 in omega (arith, a, b);
-  slots = let a = total_takes slot_held m.1 in let b = total_takes slot_held m.2 in let d = form_held new.form in
-      omega (arith, a, b, d);
+  slots = λ k. let a = total_takes (slot_held k) m.1 in let b = total_takes (slot_held k) m.2 in
+      let d = form_held k 0 new.form in omega (arith, a, b, d);
   pins = λ k. let a = total_takes (pin_held k) m.1 in let b = total_takes (pin_held k) m.2 in omega (arith, a, b);
   handle_pins = λ k. let a = total_takes (handle_pin_held k) m.1 in let b = total_takes (handle_pin_held k) m.2 in
       omega (arith, a, b);
 }
 handed holds (Changes (change.InsertRoot new)) told after m =
-    keeps _ _ holds after m (λ _. refl) refl (λ _. refl) (λ _. refl)
+    keeps _ _ holds after m (λ _. refl) (λ _. refl) (λ _. refl) (λ _. refl)
 handed holds (Changes (change.Forget list)) told after m =
-    keeps _ _ holds after m (λ _. refl) refl (λ _. refl) (λ _. refl)
+    keeps _ _ holds after m (λ _. refl) (λ _. refl) (λ _. refl) (λ _. refl)
 handed holds (Changes (change.GiveBack era number)) told after m =
-    loses (Changes (change.GiveBack era number)) told m (λ _. omega arith) (omega arith) (λ _. omega arith) (λ _.
+    loses (Changes (change.GiveBack era number)) told m (λ _. omega arith) (λ _. omega arith) (λ _. omega arith) (λ _.
     omega arith)
 handed holds (Changes change.DrawHandle) told after m =
-    keeps _ _ holds after m (λ _. refl) refl (λ _. refl) (λ _. refl)
+    keeps _ _ holds after m (λ _. refl) (λ _. refl) (λ _. refl) (λ _. refl)
 handed holds (Changes (change.InsertHandle new)) (Event (event.Inserted given)) after m = record {
   fds = λ f. let a = total_takes (fd_held f) m.1 in let b = total_takes (fd_held f) m.2 in omega (arith, a, b);
-  slots = let a = total_takes slot_held m.1 in let b = total_takes slot_held m.2 in omega (arith, a, b);
+  slots = λ k. let a = total_takes (slot_held k) m.1 in let b = total_takes (slot_held k) m.2 in omega (arith, a, b);
   pins = λ k. let a = total_takes (pin_held k) m.1 in let b = total_takes (pin_held k) m.2 in omega (arith, a, b);
   handle_pins = λ k. let a = total_takes (handle_pin_held k) m.1 in let b = total_takes (handle_pin_held k) m.2 in
       omega (arith, a, b);
 }
 handed holds (Changes (change.InsertHandle new)) told after m =
-    keeps _ _ holds after m (λ _. refl) refl (λ _. refl) (λ _. refl)
+    keeps _ _ holds after m (λ _. refl) (λ _. refl) (λ _. refl) (λ _. refl)
 handed holds (Changes (change.PinHandle handle number)) (Event (event.Pinned row fd)) after m =
     gains (Changes (change.PinHandle handle number)) (Event (event.Pinned row fd)) m (λ _.
-    omega arith) (omega arith) (λ _. omega arith) (λ _. omega arith)
+    omega arith) (λ _. omega arith) (λ _. omega arith) (λ _. omega arith)
 handed holds (Changes (change.PinHandle handle number)) told after m =
-    keeps _ _ holds after m (λ _. refl) refl (λ _. refl) (λ _. refl)
+    keeps _ _ holds after m (λ _. refl) (λ _. refl) (λ _. refl) (λ _. refl)
 handed holds (Changes (change.UnpinHandle row)) told after m =
-    loses (Changes (change.UnpinHandle row)) told m.1 (λ _. omega arith) (omega arith) (λ _. omega arith) (λ _.
+    loses (Changes (change.UnpinHandle row)) told m.1 (λ _. omega arith) (λ _. omega arith) (λ _. omega arith) (λ _.
     omega arith)
 handed holds (Changes (change.Release handle number)) told after m =
-    keeps _ _ holds after m (λ _. refl) refl (λ _. refl) (λ _. refl)
-handed holds (Changes change.Clear) told after m = keeps _ _ holds after m (λ _. refl) refl (λ _. refl) (λ _. refl)
+    keeps _ _ holds after m (λ _. refl) (λ _. refl) (λ _. refl) (λ _. refl)
+handed holds (Changes change.Clear) told after m = keeps _ _ holds after m (λ _. refl) (λ _. refl) (λ _. refl)
+    (λ _. refl)
 handed holds (Changes change.TakeClosing) (Event (event.Closing first)) after m =
-    brings first.fd first.slot holds after m
+    brings first.fd first.slot first.class holds after m
 handed holds (Changes change.TakeClosing) told after m =
-    keeps (Changes change.TakeClosing) told holds after m (λ _. refl) refl (λ _. refl) (λ _. refl)
+    keeps (Changes change.TakeClosing) told holds after m (λ _. refl) (λ _. refl) (λ _. refl) (λ _. refl)
 
 -- a descriptor's entry is set
 sets : (opened : ℕ → Option Opened) (f : ℕ) (x : Option Opened) (fd : ℕ) →

@@ -1,13 +1,17 @@
 -- What holds of every run whose jobs keep the discipline.
 use Rattle.std.proofs.Common.{◌≡◌, ◌≢◌, ⊎_elim, ℕ, ◌+◌, ◌*◌, ◌<◌, ◌≤◌, List, [], ◌∷◌, ◌++◌, length, Bool, true, false}
-use Rattle.std.proofs.Common.{cond, eqb, refl, sym, ap, subst, ◌∙◌, arith, Option, Some, None}
+use Rattle.std.proofs.Common.{cond, eqb, get_or, refl, sym, ap, subst, ◌∙◌, arith, Option, Some, None}
 use Rattle.std.proofs.lemmas.Bool.{cases_eq, cases_Bool}
 use Rattle.pt_host.specs.Words.{is, total, Each, Takes, Takes.{here, there}, sum_to}
 use Rattle.pt_host.specs.Tree.{Tree, IsWellFormed}
 use Rattle.pt_tables.specs.Tables.{Tables, Agree, AreApart, IsSoundRow, IsSoundHandle, HasNumber, empty_tables}
 use Rattle.pt_tables.specs.declared.row.Row.{Row}
 use Rattle.pt_tables.specs.declared.row.HandleRow.{HandleRow}
+use Rattle.pt_tables.specs.declared.row.Closing.{Closing}
+use Rattle.pt_tables.specs.declared.form.RowForm.{RowForm}
+use Rattle.pt_tables.specs.declared.form.RowForm.TheVariants.{File}
 use Rattle.pt_tables.specs.Rows.{IsRow, IsHandleRow}
+use Rattle.pt_tables.proofs.ByClass.{in_range}
 use Rattle.pt_frame.specs.Deed.{Deed, Calls, Changes, Step}
 use Rattle.pt_law.specs.World.{fd_of}
 use Rattle.pt_frame.specs.declared.hold.Hold.{Hold}
@@ -15,16 +19,18 @@ use Rattle.pt_frame.specs.declared.hold.Hold.TheVariants as hold
 use Rattle.pt_law.specs.Discipline.{Job, idle, at_job, JobMoves, Disciplined, entry_holds}
 use Rattle.pt_law.specs.Story.{no_story}
 use Rattle.pt_law.specs.World.{World, Turn, TablesGo, Runs, TablesRun, steps_of, no_past}
+use Rattle.pt_law.specs.Ledger.{form_slot, row_slot, handle_slot, slot_if, kept_slots}
 use Rattle.pt_law.specs.Ledger.{closing_slot, slot_taken, slot_given, slots_taken, slots_given, carried, weighed}
 use Rattle.pt_law.specs.Ledger.{closing_has, fds_carried, open_count, given, inserted}
 use Rattle.pt_law.proofs.Flows.{fd_held, all_hold}
 use Rattle.pt_law.specs.Laws.{IsOpenAsResolved, Starts, AreDistinct, HasObject, IsCounted, SlotsAddUp}
 use Rattle.pt_law.specs.Discipline.{AreDisciplined, AreEnded}
-use Rattle.pt_law.specs.Laws.{AreKept, IsAtRest, LeavesRows}
+use Rattle.pt_law.specs.Laws.{AreKept, AreLimited, IsAtRest, LeavesRows}
 use Rattle.pt_frame.specs.declared.act.ActReply.{ActReply}
 use Rattle.pt_frame.specs.declared.act.ActReply.TheVariants.{Event}
 use Rattle.pt_law.proofs.Flows.{slot_held, pin_held, handle_pin_held, row_pins, handle_pins, called, unmade}
-use Rattle.pt_law.proofs.Lists.{total_takes, each_front, each_taken, each_both, sum_to_same, sum_to_zero, two_of}
+use Rattle.pt_law.proofs.Lists.{total_takes, each_front, each_map, each_taken, each_both, sum_to_same, sum_to_zero}
+use Rattle.pt_law.proofs.Lists.{two_of}
 use Rattle.pt_law.proofs.Lists.{is_same, is_apart}
 use Rattle.pt_law.proofs.Effects.{Stays, stays, stays_same, stays_on}
 use Rattle.pt_law.proofs.Holding.{handed}
@@ -39,18 +45,27 @@ pub held_nobody : (bound : ℕ) (w : Hold → ℕ) (js : ℕ → Job) → ((j : 
     all_hold bound w js ≡ 0
 held_nobody bound w js e = sum_to_zero (λ j. total w (js j).holds) bound e
 
-pub empty_agree : (limit : ℕ) → Agree (empty_tables limit)
-empty_agree limit =
-    record { sound = tt; apart = tt; sound_handles = tt; handles_apart = tt; serials = tt; slots = omega arith }
+pub empty_agree : (limits : List ℕ) → Agree (empty_tables limits)
+empty_agree limits =
+    record {
+      sound = tt;
+      apart = tt;
+      sound_handles = tt;
+      handles_apart = tt;
+      serials = tt;
+      classes = refl;
+      slots =
+          λ c. omega arith;
+    }
 
-pub begins_tabled : (limit bound : ℕ) → Tabled bound (λ n. 0) (empty_tables limit) (λ j. idle)
-begins_tabled limit bound =
+pub begins_tabled : (limits : List ℕ) (bound : ℕ) → Tabled bound (λ n. 0) (empty_tables limits) (λ j. idle)
+begins_tabled limits bound =
     let none = (λ (w : Hold → ℕ). held_nobody bound w (λ j. idle) (λ j l. refl)) in
     let still = sum_to_zero (λ j. 0) bound (λ j l. refl) in
     record {
-      agree = empty_agree limit;
+      agree = empty_agree limits;
       books = record {
-        slots = let a = none slot_held in omega (arith, a);
+        slots = λ c. let a = none (slot_held c) in omega (arith, a);
         pins = λ s. let a = none (pin_held s) in omega (arith, a);
         handle_pins = λ s. let a = none (handle_pin_held s) in omega (arith, a);
         closings = omega (arith, still);
@@ -62,11 +77,11 @@ begins_tabled limit bound =
       };
     }
 
-begins_at : (limit bound : ℕ) (tree : Tree) → IsWellFormed tree →
+begins_at : (limits : List ℕ) (bound : ℕ) (tree : Tree) → IsWellFormed tree →
     Inv bound (λ fd. open_count fd tree) (λ n.
-    0) (record { tree = tree; tables = empty_tables limit; past = no_past; story = no_story }) (λ j. idle)
-begins_at limit bound tree well = record {
-  tabled = begins_tabled limit bound;
+    0) (record { tree = tree; tables = empty_tables limits; past = no_past; story = no_story }) (λ j. idle)
+begins_at limits bound tree well = record {
+  tabled = begins_tabled limits bound;
   well = well;
   fds = λ fd. let a = held_nobody bound (fd_held fd) (λ j. idle) (λ j l. refl) in omega (arith, a);
   right = record {
@@ -85,13 +100,13 @@ begins_at limit bound tree well = record {
   };
 }
 
-pub begins : (limit bound : ℕ) (w : World) → Starts limit w →
+pub begins : (limits : List ℕ) (bound : ℕ) (w : World) → Starts limits w →
     Inv bound (λ fd. open_count fd w.tree) (λ n. 0) w (λ j. idle)
-begins limit bound w s =
-    let same : w ≡ record { tree = w.tree; tables = empty_tables limit; past = no_past; story = no_story } =
+begins limits bound w s =
+    let same : w ≡ record { tree = w.tree; tables = empty_tables limits; past = no_past; story = no_story } =
     λ i. record { tree = w.tree; tables = s.tables i; past = s.past i; story = s.story i } in
     subst (λ z. Inv bound (λ fd. open_count fd w.tree) (λ n. 0) z (λ j. idle)) (sym same)
-    (begins_at limit bound w.tree s.well_formed)
+    (begins_at limits bound w.tree s.well_formed)
 
 -- a job came here by the discipline, and goes on by it
 abbrev pub Between : List Step → List Step → Job → Type 0
@@ -106,15 +121,16 @@ between bound turns more a j l =
     (e.0, (e.1, d.0, e.2))
 
 -- where a run of the tables has come to
-pub reach_tables : (limit bound : ℕ) (turns more : List Turn) (now : Tables) → AreDisciplined bound (turns ++ more) →
-    TablesRun (empty_tables limit) turns now →
+pub reach_tables : (limits : List ℕ) (bound : ℕ) (turns more : List Turn) (now : Tables) → AreDisciplined bound
+    (turns ++ more) →
+    TablesRun (empty_tables limits) turns now →
     (js : ℕ → Job) × Tabled bound (λ n. inserted n turns) now js × Each (λ s. HasFlows s.step.deed s.step.reply) turns
     × ((j : ℕ) → j < bound → Between (steps_of j turns) (steps_of j more) (js j))
-reach_tables limit bound turns more now a r =
+reach_tables limits bound turns more now a r =
     let ends = choose (λ j job.
     Between (steps_of j turns) (steps_of j more) job) bound idle (between bound turns more a) in
-    let v = tables_keep bound (λ n. 0) turns (empty_tables limit) now (λ j.
-    idle) ends.0 r (each_front (λ s. s.job < bound) turns more a.owners) (begins_tabled limit bound) (λ j l.
+    let v = tables_keep bound (λ n. 0) turns (empty_tables limits) now (λ j.
+    idle) ends.0 r (each_front (λ s. s.job < bound) turns more a.owners) (begins_tabled limits bound) (λ j l.
     (ends.1 j l).0) in (
       v.1,
       recount bound (λ n. 0 + inserted n turns) (λ n. inserted n turns) now v.1 (λ n. omega arith) v.2,
@@ -123,15 +139,15 @@ reach_tables limit bound turns more now a r =
     )
 
 -- and one of host and tables
-pub reach : (limit bound : ℕ) (turns more : List Turn) (start now : World) → Starts limit start →
+pub reach : (limits : List ℕ) (bound : ℕ) (turns more : List Turn) (start now : World) → Starts limits start →
     AreDisciplined bound (turns ++ more) → Runs start turns now →
     (js : ℕ → Job) × Inv bound (λ fd. open_count fd start.tree) (λ n. 0 + inserted n turns) now js
     × ((j : ℕ) → j < bound → Between (steps_of j turns) (steps_of j more) (js j))
-reach limit bound turns more start now s a r =
+reach limits bound turns more start now s a r =
     let ends = choose (λ j job.
     Between (steps_of j turns) (steps_of j more) job) bound idle (between bound turns more a) in
     let v = runs_keep bound (λ fd. open_count fd start.tree) (λ n. 0) turns start now (λ j.
-    idle) ends.0 r (each_front (λ s. s.job < bound) turns more a.owners) (begins limit bound start s) (λ j l.
+    idle) ends.0 r (each_front (λ s. s.job < bound) turns more a.owners) (begins limits bound start s) (λ j l.
     (ends.1 j l).0) in
     (v.0, v.1, (λ j l. subst (Between (steps_of j turns) (steps_of j more)) (sym (v.2 j l)) (ends.1 j l)))
 
@@ -150,12 +166,13 @@ run_stays (s ∷ ss) t last r = stays_on (step_stays t s.step.deed s.step.reply 
 pub era_grows : (turns : List Turn) (start now : Tables) → TablesRun start turns now → start.era ≤ now.era
 era_grows turns start now r = (run_stays turns start now r).era
 
-limit_stays : (limit : ℕ) (turns : List Turn) (now : Tables) → TablesRun (empty_tables limit) turns now →
-    now.limit ≡ limit
-limit_stays limit turns now r = (run_stays turns (empty_tables limit) now r).limit
+limit_stays : (limits : List ℕ) (turns : List Turn) (now : Tables) → TablesRun (empty_tables limits) turns now →
+    now.limits ≡ limits
+limit_stays limits turns now r = (run_stays turns (empty_tables limits) now r).limits
 
-pub agree_law : (limit : ℕ) (turns : List Turn) (now : Tables) → TablesRun (empty_tables limit) turns now → Agree now
-agree_law limit turns now r = go turns (empty_tables limit) (empty_agree limit) r
+pub agree_law : (limits : List ℕ) (turns : List Turn) (now : Tables) → TablesRun (empty_tables limits) turns now →
+    Agree now
+agree_law limits turns now r = go turns (empty_tables limits) (empty_agree limits) r
   where
     go : (turns : List Turn) (t : Tables) → Agree t → TablesRun t turns now → Agree now
     go [] t a r = rw r a
@@ -173,47 +190,89 @@ flows_of j (s ∷ ss) h = go (eqb s.job j) (flows_of j ss h.1)
     go false r = r
 
 carries_step : (job after : Job) (step : Step) → HasFlows step.deed step.reply → JobMoves job step after →
-    total slot_held after.holds + weighed slot_given step.deed step.reply ≡ total slot_held job.holds
-    + weighed slot_taken step.deed step.reply
-carries_step job after step f m = go step.deed f m
+    (class : ℕ) → total (slot_held class) after.holds + weighed (slot_given class) step.deed step.reply
+    ≡ total (slot_held class) job.holds + weighed (slot_taken class) step.deed step.reply
+carries_step job after step f m class = go step.deed f m
   where
     go : (deed : Option Deed) → HasFlows deed step.reply → JobMoves job (record step { deed = deed }) after →
-        total slot_held after.holds + weighed slot_given deed step.reply ≡ total slot_held job.holds
-        + weighed slot_taken deed step.reply
-    go None f m = let a = ap (λ (z : Job). total slot_held z.holds) m in omega (arith, a)
-    go (Some deed) f m = let a = (handed job.holds deed step.reply after.holds m.0).slots in omega (arith, a, f)
+        total (slot_held class) after.holds + weighed (slot_given class) deed step.reply
+        ≡ total (slot_held class) job.holds + weighed (slot_taken class) deed step.reply
+    go None f m = let a = ap (λ (z : Job). total (slot_held class) z.holds) m in omega (arith, a)
+    go (Some deed) f m = let a = (handed job.holds deed step.reply after.holds m.0).slots class in
+        let b = f class in omega (arith, a, b)
 
 carries : (job after : Job) (steps : List Step) → Each (λ (step : Step). HasFlows step.deed step.reply) steps →
-    Disciplined job steps after →
-    total slot_held after.holds + slots_given steps ≡ total slot_held job.holds + slots_taken steps
-carries job after [] f d = ap (λ (z : Job). total slot_held z.holds + 0) d
-carries job after (s ∷ steps) f d =
-    let a = carries_step job d.0 s f.0 d.1 in
-    let b = carries d.0 after steps f.1 d.2 in
+    Disciplined job steps after → (class : ℕ) →
+    total (slot_held class) after.holds + slots_given class steps
+    ≡ total (slot_held class) job.holds + slots_taken class steps
+carries job after [] f d class = ap (λ (z : Job). total (slot_held class) z.holds + 0) d
+carries job after (s ∷ steps) f d class =
+    let a = carries_step job d.0 s f.0 d.1 class in
+    let b = carries d.0 after steps f.1 d.2 class in
     omega (arith, a, b)
 
 carried_held : (job : Job) (steps : List Step) → Each (λ (step : Step). HasFlows step.deed step.reply) steps →
-    Disciplined idle steps job → carried steps ≡ total slot_held job.holds
-carried_held job steps f d = let a = carries idle job steps f d in omega (arith, a)
+    Disciplined idle steps job → (class : ℕ) → carried class steps ≡ total (slot_held class) job.holds
+carried_held job steps f d class = let a = carries idle job steps f d class in omega (arith, a)
 
-pub slots_law : (limit bound : ℕ) (turns more : List Turn) (now : Tables) → AreDisciplined bound (turns ++ more) →
-    TablesRun (empty_tables limit) turns now → SlotsAddUp limit bound turns now
-slots_law limit bound turns more now a r =
-    let v = reach_tables limit bound turns more now a r in
-    let b = v.1.books.slots in
-    let l = limit_stays limit turns now r in
-    let c = sum_to_same (λ j. total slot_held (v.0 j).holds) (λ j. carried (steps_of j turns)) bound (λ j less.
-    sym (carried_held (v.0 j) (steps_of j turns) (flows_of j turns v.2) (v.3 j less).0)) in
+-- what takes at least one of a class that has so many is of a class that has a limit
+each_limited : {X : Type 0} (P : X → Type 0) (class_of : X → ℕ) (w : ℕ → X → ℕ) →
+    ((x : X) → P x → w (class_of x) x ≡ 1) → (limits : List ℕ) (xs : List X) →
+    ((c : ℕ) → total (w c) xs ≤ get_or limits c 0) → Each (λ x. P x → class_of x < length limits) xs
+each_limited P class_of w one limits [] h = tt
+each_limited P class_of w one limits (x ∷ xs) h = (
+  (λ p. in_range limits (class_of x) (let a = h (class_of x) in let b = one x p in omega (arith, a, b))),
+  each_limited P class_of w one limits xs (λ c. let a = h c in omega (arith, a)),
+)
+
+row_takes : (row : Row) → row_slot row.class row ≡ 1
+row_takes row = go row.form
+  where
+    go : (form : RowForm) → form_slot row.class row.class form ≡ 1
+    go (File fd) = is_same row.class
+
+closing_takes : (entry : Closing) → entry.slot ≡ true → closing_slot entry.class entry ≡ 1
+closing_takes entry e = ap (λ b. slot_if entry.class b entry.class) e ∙ is_same entry.class
+
+-- each class that stands in the tables has a limit, where the slots add up
+limited : (limits : List ℕ) (t : Tables) → ((c : ℕ) → kept_slots c t ≤ get_or limits c 0) → AreLimited limits t
+limited limits t h = record {
+  rows = each_map (λ (row : Row). Unit {0} → row.class < length limits) (λ (row : Row). row.class < length limits)
+      t.rows (λ row f. f tt)
+      (each_limited (λ row. Unit {0}) (λ (row : Row). row.class) row_slot (λ row u. row_takes row) limits t.rows
+      (λ c. let a = h c in omega (arith, a)));
+  handles = each_map (λ (row : HandleRow). Unit {0} → row.class < length limits)
+      (λ (row : HandleRow). row.class < length limits) t.handles (λ row f. f tt)
+      (each_limited (λ row. Unit {0}) (λ (row : HandleRow). row.class) handle_slot (λ row u. is_same row.class) limits
+      t.handles (λ c. let a = h c in omega (arith, a)));
+  closing = each_limited (λ (entry : Closing). entry.slot ≡ true) (λ (entry : Closing). entry.class) closing_slot
+      closing_takes limits t.closing (λ c. let a = h c in omega (arith, a));
+}
+
+pub slots_law : (limits : List ℕ) (bound : ℕ) (turns more : List Turn) (now : Tables) → AreDisciplined bound
+    (turns ++ more) →
+    TablesRun (empty_tables limits) turns now → SlotsAddUp limits bound turns now
+slots_law limits bound turns more now a r =
+    let v = reach_tables limits bound turns more now a r in
     record {
-      sum = omega (arith, b, l, c);
-      taken = λ j less. let k = carries idle (v.0 j) (steps_of j turns) (flows_of j turns v.2) (v.3 j less).0 in
+      sum = λ class.
+          let b = v.1.books.slots class in
+          let l = ap (λ xs. get_or xs class 0) (limit_stays limits turns now r) in
+          let c = sum_to_same (λ j. total (slot_held class) (v.0 j).holds) (λ j. carried class (steps_of j turns))
+          bound (λ j less.
+          sym (carried_held (v.0 j) (steps_of j turns) (flows_of j turns v.2) (v.3 j less).0 class)) in
+          omega (arith, b, l, c);
+      limited = limited limits now (λ class. let b = v.1.books.slots class in
+          let l = ap (λ xs. get_or xs class 0) (limit_stays limits turns now r) in omega (arith, b, l));
+      taken = λ class j less.
+          let k = carries idle (v.0 j) (steps_of j turns) (flows_of j turns v.2) (v.3 j less).0 class in
           omega (arith, k);
     }
 
-pub once_law : (limit bound : ℕ) (turns more : List Turn) (now : Tables) (n : ℕ) →
-    AreDisciplined bound (turns ++ more) → TablesRun (empty_tables limit) turns now → n ≢ 1 → inserted n turns ≤ 1
-once_law limit bound turns more now n a r ne =
-    let v = reach_tables limit bound turns more now a r in
+pub once_law : (limits : List ℕ) (bound : ℕ) (turns more : List Turn) (now : Tables) (n : ℕ) →
+    AreDisciplined bound (turns ++ more) → TablesRun (empty_tables limits) turns now → n ≢ 1 → inserted n turns ≤ 1
+once_law limits bound turns more now n a r ne =
+    let v = reach_tables limits bound turns more now a r in
     let o = v.1.numbers.once n ne in
     omega (arith, o)
 
@@ -264,28 +323,30 @@ counted n t a = record {
   gone = λ z. none_live n t.next_row t.rows a.sound z;
 }
 
-pub counts_law : (limit : ℕ) (turns : List Turn) (now : Tables) (n : ℕ) → TablesRun (empty_tables limit) turns now →
+pub counts_law : (limits : List ℕ) (turns : List Turn) (now : Tables) (n : ℕ) → TablesRun (empty_tables limits)
+    turns now →
     IsCounted now n (given n turns)
-counts_law limit turns now n r =
-    subst (IsCounted now n) (counts_run n turns (empty_tables limit) now (empty_agree limit) r)
-    (counted n now (agree_law limit turns now r))
+counts_law limits turns now n r =
+    subst (IsCounted now n) (counts_run n turns (empty_tables limits) now (empty_agree limits) r)
+    (counted n now (agree_law limits turns now r))
 
 -- objects
 shown : (bound : ℕ) (base had : ℕ → ℕ) (w : World) (js : ℕ → Job) (row : Row) → Inv bound base had w js →
     IsRow w.tables row → RowOpen w.tree w.past row
 shown bound base had w js row v h = each_taken (RowOpen w.tree w.past) h.1 v.right.shown
 
-pub object_law : (limit bound : ℕ) (turns more : List Turn) (start now : World) (row : Row) → Starts limit start →
+pub object_law : (limits : List ℕ) (bound : ℕ) (turns more : List Turn) (start now : World) (row : Row) →
+    Starts limits start →
     AreDisciplined bound (turns ++ more) → Runs start turns now → IsRow now.tables row → HasObject now row
-object_law limit bound turns more start now row s a r h =
-    let v = reach limit bound turns more start now s a r in
+object_law limits bound turns more start now row s a r h =
+    let v = reach limits bound turns more start now s a r in
     let o = shown bound _ _ now v.0 row v.1 h in
     record { object = o.object; its = o.placed; open_on = o.shows.open_on; of_number = o.numbered }
 
-pub distinct_law : (limit bound : ℕ) (turns more : List Turn) (start now : World) → Starts limit start →
+pub distinct_law : (limits : List ℕ) (bound : ℕ) (turns more : List Turn) (start now : World) → Starts limits start →
     AreDisciplined bound (turns ++ more) → Runs start turns now → AreDistinct now
-distinct_law limit bound turns more start now s a r n m x y ne =
-    let v = reach limit bound turns more start now s a r in
+distinct_law limits bound turns more start now s a r n m x y ne =
+    let v = reach limits bound turns more start now s a r in
     let p = shown bound _ _ now v.0 x.0 v.1 x.1 in
     let q = shown bound _ _ now v.0 y.0 v.1 y.1 in (
       p.object,
@@ -301,10 +362,10 @@ distinct_law limit bound turns more start now s a r n m x y ne =
           (two_of AreApart x.1.1 y.1.1 v.1.tabled.agree.apart)),
     )
 
-pub kept_law : (limit bound : ℕ) (turns more : List Turn) (start now : World) → Starts limit start →
+pub kept_law : (limits : List ℕ) (bound : ℕ) (turns more : List Turn) (start now : World) → Starts limits start →
     AreDisciplined bound (turns ++ more) → Runs start turns now → AreKept start bound turns now
-kept_law limit bound turns more start now s a r =
-    let v = reach limit bound turns more start now s a r in
+kept_law limits bound turns more start now s a r =
+    let v = reach limits bound turns more start now s a r in
     record {
       once = λ fd. let f = v.1.fds fd in omega (arith, f);
       all = λ fd.
@@ -316,11 +377,11 @@ kept_law limit bound turns more start now s a r =
     }
 
 -- each handle's descriptor is open on the object that its number had when it was resolved for the opening
-pub handles_law : (limit bound : ℕ) (turns more : List Turn) (start now : World) (row : HandleRow) →
-    Starts limit start → AreDisciplined bound (turns ++ more) → Runs start turns now → IsHandleRow now.tables row →
+pub handles_law : (limits : List ℕ) (bound : ℕ) (turns more : List Turn) (start now : World) (row : HandleRow) →
+    Starts limits start → AreDisciplined bound (turns ++ more) → Runs start turns now → IsHandleRow now.tables row →
     IsOpenAsResolved now row
-handles_law limit bound turns more start now row s a r h =
-    let v = reach limit bound turns more start now s a r in
+handles_law limits bound turns more start now row s a r h =
+    let v = reach limits bound turns more start now s a r in
     let o = each_taken (HandleOpen now.tree now.past) h.1 v.1.right.handled in
     (o.object, o.placed, o.open_on)
 
@@ -369,12 +430,12 @@ sum_nothing : (bound : ℕ) (js : ℕ → Job) → ((j : ℕ) → j < bound → 
 sum_nothing bound js h =
     ((λ w z. held_nobody bound w js (λ j l. (h j l).0 w z)), sum_to_zero (λ j. (js j).owed) bound (λ j l. (h j l).1))
 
-pub rest_law : (limit bound : ℕ) (turns : List Turn) (now : Tables) → AreEnded bound turns →
-    TablesRun (empty_tables limit) turns now → IsAtRest limit bound turns now
-rest_law limit bound turns now a r =
+pub rest_law : (limits : List ℕ) (bound : ℕ) (turns : List Turn) (now : Tables) → AreEnded bound turns →
+    TablesRun (empty_tables limits) turns now → IsAtRest limits bound turns now
+rest_law limits bound turns now a r =
     let ends = choose (λ j job. AtEnd (steps_of j turns) job) bound idle (at_end bound turns a) in
-    let v = tables_keep bound (λ n. 0) turns (empty_tables limit) now (λ j.
-    idle) ends.0 r a.owners (begins_tabled limit bound) (λ j l. (ends.1 j l).0) in
+    let v = tables_keep bound (λ n. 0) turns (empty_tables limits) now (λ j.
+    idle) ends.0 r a.owners (begins_tabled limits bound) (λ j l. (ends.1 j l).0) in
     let none = sum_nothing bound v.1 (λ j l. subst HasFinished (sym (v.3 j l)) (ends.1 j l).1) in
     let unpinned = all_unpinned now.rows (λ s. let p = v.2.books.pins s in
     let q = none.0 (pin_held s) (λ era n. refl) in omega (arith, p, q)) in
@@ -400,22 +461,22 @@ rest_law limit bound turns now a r =
           ))
           v.2.agree.sound_handles unpinned_handles;
       closing = closed;
-      carried = λ j l. carried_held (ends.0 j) (steps_of j turns) (flows_of j turns v.0) (ends.1 j l).0
-          ∙ (ends.1 j l).1.0 slot_held (λ era n. refl);
-      slots =
-          let p = v.2.books.slots in
-          let q = none.0 slot_held (λ era n. refl) in
-          let c = ap (total closing_slot) closed in
-          let l = limit_stays limit turns now r in
+      carried = λ class j l. carried_held (ends.0 j) (steps_of j turns) (flows_of j turns v.0) (ends.1 j l).0 class
+          ∙ (ends.1 j l).1.0 (slot_held class) (λ era n. refl);
+      slots = λ class.
+          let p = v.2.books.slots class in
+          let q = none.0 (slot_held class) (λ era n. refl) in
+          let c = ap (total (closing_slot class)) closed in
+          let l = ap (λ xs. get_or xs class 0) (limit_stays limits turns now r) in
           omega (arith, p, q, c, l);
     }
 
-pub leaves_law : (limit bound : ℕ) (turns : List Turn) (start end : World) → Starts limit start →
+pub leaves_law : (limits : List ℕ) (bound : ℕ) (turns : List Turn) (start end : World) → Starts limits start →
     AreEnded bound turns → Runs start turns end → LeavesRows start end
-leaves_law limit bound turns start end s a r fd =
+leaves_law limits bound turns start end s a r fd =
     let ends = choose (λ j job. AtEnd (steps_of j turns) job) bound idle (at_end bound turns a) in
     let v = runs_keep bound (λ fd. open_count fd start.tree) (λ n. 0) turns start end (λ j.
-    idle) ends.0 r a.owners (begins limit bound start s) (λ j l. (ends.1 j l).0) in
+    idle) ends.0 r a.owners (begins limits bound start s) (λ j l. (ends.1 j l).0) in
     let none = sum_nothing bound v.0 (λ j l. subst HasFinished (sym (v.2 j l)) (ends.1 j l).1) in
     let q = none.0 (fd_held fd) (λ era n. refl) in
     let closed = empty end.tables.closing (let p = v.1.tabled.books.closings in let q = none.1 in

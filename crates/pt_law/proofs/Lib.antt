@@ -14,6 +14,7 @@ pub mod Wearing
 pub mod Seated
 pub mod Answering
 pub mod Effects
+pub mod Slots
 pub mod Flows
 pub mod Balance
 pub mod Knowing

@@ -270,7 +270,7 @@ open_is tree fd object e = go (tree.opened fd.0) refl e
     go (Some one) is e = (one, is, some_same e)
 
 -- A job makes an object under a name, is told its ids, opens the name anew and is given a number for these ids.
-module _ (limit bound : ℕ) (turns more : List Turn) (start last : World) (j : ℕ) (st : Starts limit start)
+module _ (limits : List ℕ) (bound : ℕ) (turns more : List Turn) (start last : World) (j : ℕ) (st : Starts limits start)
     (d : AreDisciplined bound (turns ++ more)) (r : Runs start turns last) (first to past middle back : List Step)
     (dir at : Fd) (name child : List ℕ) (flags by : OpenFlags) (how mode : ℕ) (fd new : Fd) (stat : Stat)
     (give : Step) (era number : ℕ) (ids : ObjIds)
@@ -412,7 +412,7 @@ module _ (limit bound : ℕ) (turns more : List Turn) (start last : World) (j : 
 
     carried : 0 < fds_carried fd.0 (steps_of j front)
     carried =
-        let v = reach limit bound front (on ++ (rest ++ more)) start c.w1 st disciplined to_made in
+        let v = reach limits bound front (on ++ (rest ++ more)) start c.w1 st disciplined to_made in
         let own : steps_of j front ≡ steps_of j c.before ++ a.step ∷ [] = own_to j c.before [] a.step in
         subst (λ (z : List Step). 0 < fds_carried fd.0 z) (sym own)
         (carries_opened (steps_of j c.before) (v.0 j) dir name flags how fd
@@ -452,7 +452,7 @@ module _ (limit bound : ℕ) (turns more : List Turn) (start last : World) (j : 
 
     still_open : IsOpenOn c.w5.tree fd made
     still_open =
-        carried_law limit bound front on (rest ++ more) start c.w1 c.w5 j fd made st disciplined owner to_made
+        carried_law limits bound front on (rest ++ more) start c.w1 c.w5 j fd made st disciplined owner to_made
         to_second carried gives_none_on made_there.2
 
     told_ids : (what : Object) × IsObject c.w5.tree made what × (what.ids ≡ ids)
@@ -460,7 +460,7 @@ module _ (limit bound : ℕ) (turns more : List Turn) (start last : World) (j : 
         let later : List Turn = t ∷ (c.until_open ++ o ∷ []) in
         let whole : front ++ (on ++ (rest ++ more)) ≡ front ++ (c.until ++ (later ++ (rest ++ more))) =
         ap (λ s. front ++ s) (append_assoc c.until later (rest ++ more)) in
-        let is_open = carried_law limit bound front c.until (later ++ (rest ++ more)) start c.w1 c.w2 j fd made st
+        let is_open = carried_law limits bound front c.until (later ++ (rest ++ more)) start c.w1 c.w2 j fd made st
         (subst (AreDisciplined bound) whole disciplined) owner to_made c.r1 carried gives_none_to made_there.2 in
         let l = c.g1.made.0.0.trees.changes in
         let here : l.0 ≡ made = one_object c.w2.tree fd l.0 made l.2 is_open in
@@ -494,7 +494,7 @@ module _ (limit bound : ℕ) (turns more : List Turn) (start last : World) (j : 
         (ap (λ (f : Findings). f.latest) (story_own c.w4 o c.w5 c.g2))
 
     is_given : IsGiven last giving
-    is_given = givings_law limit bound turns more start last j giving st d r owner given
+    is_given = givings_law limits bound turns more start last j giving st d r owner given
 
     found_open : IsOpenOn c.w5.tree new is_given.object
     found_open =

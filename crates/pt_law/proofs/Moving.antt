@@ -51,7 +51,7 @@ pub giving_lasts : (seat : HostSeat) (one : Hold) (told : ActReply) (notes : Not
 giving_lasts seat (hold.Pin row fd) told notes b = (refl, refl, refl, refl, b)
 giving_lasts seat (hold.HandlePin row fd) told notes b = (refl, refl, refl, refl, b)
 giving_lasts seat (hold.Fd fd) told notes b = (refl, refl, refl, refl, ap (unless fd) b)
-giving_lasts seat hold.Slot told notes b = (refl, refl, refl, refl, b)
+giving_lasts seat (hold.Slot class) told notes b = (refl, refl, refl, refl, b)
 giving_lasts seat (hold.Count era number) told notes b = (refl, refl, refl, refl, b)
 giving_lasts seat hold.Groups told notes b = (refl, refl, refl, refl, b)
 giving_lasts seat hold.EffectiveGid told notes b = (refl, refl, refl, refl, b)
@@ -67,7 +67,7 @@ gives_back : (seat : HostSeat) (one : Hold) (told : ActReply) (holds left : List
 gives_back seat (hold.Pin row fd) told holds left notes t = ((fd, takes_plain t refl), tt, omega arith, refl)
 gives_back seat (hold.HandlePin row fd) told holds left notes t = ((fd, takes_plain t refl), tt, omega arith, refl)
 gives_back seat (hold.Fd fd) told holds left notes t = (takes_plain t refl, tt, refl, refl)
-gives_back seat hold.Slot told holds left notes t = (takes_plain t refl, tt, omega arith, refl)
+gives_back seat (hold.Slot class) told holds left notes t = (takes_plain t refl, tt, omega arith, refl)
 gives_back seat (hold.Count era number) told holds left notes t = (takes_plain t refl, tt, omega arith, refl)
 gives_back seat hold.Groups told holds left notes t = ((tt, takes_scope t refl), tt, refl, refl)
 gives_back seat hold.EffectiveGid told holds left notes t = ((tt, takes_scope t refl), tt, refl, refl)
@@ -84,7 +84,7 @@ unmade_back seat hold.Groups holds left notes t m = ap (λ (h : List Hold). at_j
 unmade_back seat (hold.Pin row fd) holds left notes t m = absurd m
 unmade_back seat (hold.HandlePin row fd) holds left notes t m = absurd m
 unmade_back seat (hold.Fd fd) holds left notes t m = absurd m
-unmade_back seat hold.Slot holds left notes t m = absurd m
+unmade_back seat (hold.Slot class) holds left notes t m = absurd m
 unmade_back seat (hold.Count era number) holds left notes t m = absurd m
 unmade_back seat one holds left notes t m = absurd m
 
@@ -130,35 +130,36 @@ takes_closed fd _ _ (there {y = one} {xs = holds} {ys = left} t) =
     go true e k = subst (λ (z : Hold). Takes (hold.Fd fd) (z ∷ holds) holds) (sym (descriptor one fd e)) here
     go false e k = there k
 
-takes_slotted : (holds : List Hold) → Takes hold.Slot (slotted holds) holds
-takes_slotted [] = here
-takes_slotted (one ∷ holds) = go (is_some_fd (fd_in one)) (takes_slotted holds)
+takes_slotted : (class : ℕ) (holds : List Hold) → Takes (hold.Slot class) (slotted class holds) holds
+takes_slotted class [] = here
+takes_slotted class (one ∷ holds) = go (is_some_fd (fd_in one)) (takes_slotted class holds)
   where
-    go : (b : Bool) → Takes hold.Slot (slotted holds) holds →
-        Takes hold.Slot (if b then one ∷ hold.Slot ∷ holds else one ∷ slotted holds) (one ∷ holds)
+    go : (b : Bool) → Takes (hold.Slot class) (slotted class holds) holds →
+        Takes (hold.Slot class) (if b then one ∷ hold.Slot class ∷ holds else one ∷ slotted class holds) (one ∷ holds)
     go true t = there here
     go false t = there t
 
 -- the tables take the descriptor and the slot on which it lies
-hands : (fd : Fd) (holds : List Hold) → LiesOnSlot fd holds →
-    (mid : List Hold) × Takes (hold.Fd fd) holds mid × Takes hold.Slot mid (handed fd holds)
-hands fd _ (lies_here {holds = holds}) = (
-  hold.Slot ∷ holds,
+hands : (fd : Fd) (class : ℕ) (holds : List Hold) → LiesOnSlot fd class holds →
+    (mid : List Hold) × Takes (hold.Fd fd) holds mid × Takes (hold.Slot class) mid (handed fd holds)
+hands fd class _ (lies_here {holds = holds}) = (
+  hold.Slot class ∷ holds,
   here,
-  subst (λ (b : Bool). Takes hold.Slot (hold.Slot ∷ holds)
-      (if b then holds else hold.Fd fd ∷ handed fd (hold.Slot ∷ holds))) (sym (same_number fd.0)) here,
+  subst (λ (b : Bool). Takes (hold.Slot class) (hold.Slot class ∷ holds)
+      (if b then holds else hold.Fd fd ∷ handed fd (hold.Slot class ∷ holds))) (sym (same_number fd.0)) here,
 )
-hands fd _ (lies_there {one = one} {holds = holds} n l) =
-    let k = hands fd holds l in (
+hands fd class _ (lies_there {one = one} {holds = holds} n l) =
+    let k = hands fd class holds l in (
       one ∷ k.0,
       there k.1,
-      subst (λ (b : Bool). Takes hold.Slot (one ∷ k.0) (if b then unslotted holds else one ∷ handed fd holds)) (sym n)
-          (there k.2),
+      subst (λ (b : Bool). Takes (hold.Slot class) (one ∷ k.0)
+          (if b then unslotted holds else one ∷ handed fd holds)) (sym n) (there k.2),
     )
 
-hands_form : (form : RowForm) (holds : List Hold) → LiesOnSlot (fd_of form) holds →
-    (mid : List Hold) × Takes (hold.Fd (fd_of form)) holds mid × Takes hold.Slot mid (handed_of (row_fd form) holds)
-hands_form (File fd) holds l = hands fd holds l
+hands_form : (form : RowForm) (class : ℕ) (holds : List Hold) → LiesOnSlot (fd_of form) class holds →
+    (mid : List Hold) × Takes (hold.Fd (fd_of form)) holds mid
+    × Takes (hold.Slot class) mid (handed_of (row_fd form) holds)
+hands_form (File fd) class holds l = hands fd class holds l
 
 -- a call of a request's own part
 call_shifts : (sort : Sort) (names : List Fd) (told : ActReply) (holds : List Hold) → MayCall sort names holds →
@@ -180,10 +181,10 @@ may_move (Changes (change.Resolve number)) (Event (event.Resolved resolved)) hol
     (takes_plain (takes_laid (hold.Pin resolved.row (row_fd resolved.form)) holds) refl, m.1, omega arith, refl)
 may_move (Changes (change.Claim claim)) (Event (event.Claimed given)) holds notes m =
     (takes_plain (takes_laid (hold.Count claim.era given.number) holds) refl, m.1, omega arith, refl)
-may_move (Changes change.TakeFd) (Event event.Taken) holds notes m =
-    (takes_plain (takes_slotted holds) refl, m.1, omega arith, refl)
+may_move (Changes (change.TakeFd class)) (Event event.Taken) holds notes m =
+    (takes_plain (takes_slotted class holds) refl, m.1, omega arith, refl)
 may_move (Changes (change.Insert new)) (Event (event.Inserted given)) holds notes m =
-    let k = hands_form new.form holds m.0 in
+    let k = hands_form new.form new.class holds m.0 in
     let left = handed_of (row_fd new.form) holds in (
       (
         unscoped k.0,
@@ -199,16 +200,16 @@ may_move (Changes (change.Insert new)) (Event (event.Inserted given)) holds note
 may_move (Changes (change.Insert new)) (Event (event.Found given)) holds notes m =
     (takes_plain (takes_laid (hold.Count new.era given.number) holds) refl, m.1, omega arith, refl)
 may_move (Changes (change.InsertRoot new)) (Event (event.Inserted given)) holds notes m =
-    let k = hands_form new.form holds m.0 in
+    let k = hands_form new.form 0 holds m.0 in
     ((unscoped k.0, takes_plain k.1 refl, takes_plain k.2 refl), m.1, omega arith, refl)
 may_move (Changes (change.InsertHandle new)) (Event (event.Inserted given)) holds notes m =
-    let k = hands new.fd holds m.0 in
+    let k = hands new.fd new.class holds m.0 in
     ((unscoped k.0, takes_plain k.1 refl, takes_plain k.2 refl), m.1, omega arith, refl)
 may_move (Changes (change.PinHandle handle number)) (Event (event.Pinned row fd)) holds notes m =
     (takes_plain (takes_laid (hold.HandlePin row fd) holds) refl, m.1, omega arith, refl)
 may_move (Changes (change.Unpin row)) told holds notes m = absurd m.0
 may_move (Changes (change.UnpinHandle row)) told holds notes m = absurd m.0
-may_move (Changes change.GiveFd) told holds notes m = absurd m.0
+may_move (Changes (change.GiveFd class)) told holds notes m = absurd m.0
 may_move (Changes (change.GiveBack era number)) told holds notes m = absurd m.0
 may_move (Changes change.TakeClosing) told holds notes m = absurd m.0
 may_move (Changes asked) (Event told) holds notes m = (refl, m.1, omega arith, refl)

@@ -33,11 +33,11 @@ pub next_move : (turn : Turn) (more : List Turn) (job end : Job) →
 next_move turn more job end d = let k = subst (λ steps. Disciplined job steps end) (steps_same turn more) d in
     (k.0, k.1)
 
-pub named_law : (limit bound : ℕ) (turns : List Turn) (turn : Turn) (more : List Turn) (start now : World) →
-    Starts limit start → AreDisciplined bound (turns ++ turn ∷ more) → Runs start turns now →
+pub named_law : (limits : List ℕ) (bound : ℕ) (turns : List Turn) (turn : Turn) (more : List Turn) (start now : World) →
+    Starts limits start → AreDisciplined bound (turns ++ turn ∷ more) → Runs start turns now →
     NamesOpen now.tree turn.step.deed
-named_law limit bound turns turn more start now s a r =
-    let v = reach limit bound turns (turn ∷ more) start now s a r in
+named_law limits bound turns turn more start now s a r =
+    let v = reach limits bound turns (turn ∷ more) start now s a r in
     let lt = owner_of bound turns turn more a.owners in
     let b = v.2 turn.job lt in
     let m = next_move turn more (v.0 turn.job) b.1 b.2 in
@@ -51,7 +51,7 @@ honoured_event : (bound : ℕ) (had : ℕ → ℕ) (t : Tables) (js : ℕ →
     IsHonoured (Some (Changes e)) (Event r)
 honoured_event bound had t js j (change.Unpin row) (event.Refused why) t' after lt v h m a = a
 honoured_event bound had t js j (change.UnpinHandle row) (event.Refused why) t' after lt v h m a = a
-honoured_event bound had t js j change.GiveFd (event.Refused why) t' after lt v h m a = a
+honoured_event bound had t js j (change.GiveFd class) (event.Refused why) t' after lt v h m a = a
 honoured_event bound had t js j change.TakeClosing (event.Refused why) t' after lt v h m a = a
 honoured_event bound had t js j e r t' after lt v h m a = tt
 
@@ -65,11 +65,12 @@ honoured bound had t js j (Some (Calls a)) NoCopy t' after lt v g m = tt
 honoured bound had t js j None NoCopy t' after lt v g m = tt
 honoured bound had t js j _ _ t' after lt v g m = absurd g
 
-pub honoured_law : (limit bound : ℕ) (turns : List Turn) (turn : Turn) (more : List Turn) (now next : Tables) →
-    AreDisciplined bound (turns ++ turn ∷ more) → TablesRun (empty_tables limit) turns now →
+pub honoured_law : (limits : List ℕ) (bound : ℕ) (turns : List Turn) (turn : Turn) (more : List Turn)
+    (now next : Tables) →
+    AreDisciplined bound (turns ++ turn ∷ more) → TablesRun (empty_tables limits) turns now →
     TablesGo now turn.step.deed turn.step.reply next → IsHonoured turn.step.deed turn.step.reply
-honoured_law limit bound turns turn more now next a r g =
-    let v = reach_tables limit bound turns (turn ∷ more) now a r in
+honoured_law limits bound turns turn more now next a r g =
+    let v = reach_tables limits bound turns (turn ∷ more) now a r in
     let lt = owner_of bound turns turn more a.owners in
     let b = v.3 turn.job lt in
     let m = next_move turn more (v.0 turn.job) b.1 b.2 in

@@ -182,13 +182,13 @@ recounted bound had had' w js e f i less =
       handled = k.handled;
     }
 
-runs_find : (limit bound : ℕ) (before turns : List Turn) (start w last : World) (js ends : ℕ → Job) →
-    Starts limit start → Runs start before w → Runs w turns last → Each (λ s. s.job < bound) turns →
+runs_find : (limits : List ℕ) (bound : ℕ) (before turns : List Turn) (start w last : World) (js ends : ℕ → Job) →
+    Starts limits start → Runs start before w → Runs w turns last → Each (λ s. s.job < bound) turns →
     Inv bound (λ fd. open_count fd start.tree) (λ n. inserted n before) w js →
     AllFind bound (λ n. inserted n before) w js → ComeFromNames w → Sorted bound js turns ends →
     (now : ℕ → Job) × AllFind bound (λ n. inserted n (before ++ turns)) last now × ComeFromNames last
     × ((j : ℕ) → j < bound → now j ≡ ends j)
-runs_find limit bound before [] start w last js ends s r k lt v f c d = (
+runs_find limits bound before [] start w last js ends s r k lt v f c d = (
   js,
   subst (λ (z : World). AllFind bound (λ n. inserted n (before ++ [])) z js) (sym k)
       (recounted bound (λ n. inserted n before) (λ n. inserted n (before ++ [])) w js
@@ -196,7 +196,7 @@ runs_find limit bound before [] start w last js ends s r k lt v f c d = (
   subst ComeFromNames (sym k) c,
   (λ j l. sym (d j l)),
 )
-runs_find limit bound before (turn ∷ turns) start w last js ends s r k lt v f c d =
+runs_find limits bound before (turn ∷ turns) start w last js ends s r k lt v f c d =
     let next = k.0 in
     let up : List Turn = before ++ turn ∷ [] in
     let had' : ℕ → ℕ = λ n. inserted n up in
@@ -211,7 +211,7 @@ runs_find limit bound before (turn ∷ turns) start w last js ends s r k lt v f 
     let to : Runs start up next = runs_append before (turn ∷ []) start w next r (next, k.1, refl) in
     let once : (n : ℕ) → n ≢ 1 → had' n ≤ 1 =
     λ n apart. let o = v'.tabled.numbers.once n apart in omega (arith, o) in
-    let lives : (n : ℕ) → IsLive next.tables n → 0 < had' n = λ n live. live_inserted limit up next.tables n
+    let lives : (n : ℕ) → IsLive next.tables n → 0 < had' n = λ n live. live_inserted limits up next.tables n
     (subst (λ (x : Tables). TablesRun x up next.tables) s.tables (tables_run up start next to)) live in
     let f' = finds_after bound (λ fd. open_count fd start.tree) (λ n. inserted n before) had' w js turn next mine.0 lt.0
     v k.1 mine.1 f more once lives in
@@ -225,7 +225,7 @@ runs_find limit bound before (turn ∷ turns) start w last js ends s r k lt v f 
     lt.0 v k.1 mine.1 f more once lives new.era n new.ids
     (subst (λ (z : Step). GivesBy new.era n new.ids z.deed z.reply) (sym e)
     (refl, refl, refl)) in
-    let rest = runs_find limit bound up turns start next last js' ends s to k.2 lt.1 v' f'
+    let rest = runs_find limits bound up turns start next last js' ends s to k.2 lt.1 v' f'
     (origins_after w turn next k.1 gives c) (after_step bound js ends turn turns mine.0 d mine.2) in
     let all = append_assoc before (turn ∷ []) turns in (
       rest.0,
@@ -235,18 +235,18 @@ runs_find limit bound before (turn ∷ turns) start w last js ends s r k lt v f 
     )
 
 -- where a run has come to
-pub reach_found : (limit bound : ℕ) (turns more : List Turn) (start now : World) → Starts limit start →
+pub reach_found : (limits : List ℕ) (bound : ℕ) (turns more : List Turn) (start now : World) → Starts limits start →
     AreDisciplined bound (turns ++ more) → Runs start turns now →
     (js : ℕ → Job) × AllFind bound (λ n. inserted n turns) now js × ComeFromNames now
     × ((j : ℕ) → j < bound → Between (steps_of j turns) (steps_of j more) (js j))
-reach_found limit bound turns more start now s a r =
+reach_found limits bound turns more start now s a r =
     let ends = choose (λ j job.
     Between (steps_of j turns) (steps_of j more) job) bound idle (between bound turns more a) in
     let nothing : (i : ℕ) → start.story.found i ≡ no_story.found i = λ i. ap (λ (y : Story). y.found i) s.story in
-    let v = runs_find limit bound [] turns start start now (λ j. idle) ends.0 s refl r
+    let v = runs_find limits bound [] turns start start now (λ j. idle) ends.0 s refl r
     (each_front (λ s. s.job < bound) turns more a.owners)
     (recount_all bound (λ fd. open_count fd start.tree) (λ n. 0) (λ n. inserted n []) start (λ j. idle)
-    (λ n. omega arith) (begins limit bound start s))
+    (λ n. omega arith) (begins limits bound start s))
     (λ i less. record {
       sought = λ was e. absurd (cc);
       found = λ fd e. absurd (cc);
@@ -260,27 +260,30 @@ reach_found limit bound turns more start now s a r =
     (λ j l. (ends.1 j l).0) in
     (v.0, v.1, v.2, (λ j l. subst (Between (steps_of j turns) (steps_of j more)) (sym (v.3 j l)) (ends.1 j l)))
 
-pub origins_law : (limit bound : ℕ) (turns more : List Turn) (start now : World) → Starts limit start →
+pub origins_law : (limits : List ℕ) (bound : ℕ) (turns more : List Turn) (start now : World) → Starts limits start →
     AreDisciplined bound (turns ++ more) → Runs start turns now → ComeFromNames now
-origins_law limit bound turns more start now s a r = (reach_found limit bound turns more start now s a r).2
+origins_law limits bound turns more start now s a r = (reach_found limits bound turns more start now s a r).2
 
-pub openings_law : (limit bound : ℕ) (turns more : List Turn) (start now : World) (job : ℕ) (opening : Opening) →
-    Starts limit start → AreDisciplined bound (turns ++ more) → Runs start turns now → job < bound →
+pub openings_law : (limits : List ℕ) (bound : ℕ) (turns more : List Turn) (start now : World) (job : ℕ)
+    (opening : Opening) →
+    Starts limits start → AreDisciplined bound (turns ++ more) → Runs start turns now → job < bound →
     ((now.story.found job).latest ≡ Some opening) ⊎ ((now.story.found job).making ≡ Some opening) →
     IsOpening opening
-openings_law limit bound turns more start now job opening s a r lt (inl e) =
-    ((reach_found limit bound turns more start now s a r).1 job lt).latest opening e
-openings_law limit bound turns more start now job opening s a r lt (inr e) =
-    ((reach_found limit bound turns more start now s a r).1 job lt).making opening e
+openings_law limits bound turns more start now job opening s a r lt (inl e) =
+    ((reach_found limits bound turns more start now s a r).1 job lt).latest opening e
+openings_law limits bound turns more start now job opening s a r lt (inr e) =
+    ((reach_found limits bound turns more start now s a r).1 job lt).making opening e
 
-pub givings_law : (limit bound : ℕ) (turns more : List Turn) (start now : World) (job : ℕ) (giving : Giving) →
-    Starts limit start → AreDisciplined bound (turns ++ more) → Runs start turns now → job < bound →
+pub givings_law : (limits : List ℕ) (bound : ℕ) (turns more : List Turn) (start now : World) (job : ℕ)
+    (giving : Giving) →
+    Starts limits start → AreDisciplined bound (turns ++ more) → Runs start turns now → job < bound →
     (now.story.found job).given ≡ Some giving → IsGiven now giving
-givings_law limit bound turns more start now job giving s a r lt e =
-    ((reach_found limit bound turns more start now s a r).1 job lt).given giving e
+givings_law limits bound turns more start now job giving s a r lt e =
+    ((reach_found limits bound turns more start now s a r).1 job lt).given giving e
 
-pub handlings_law : (limit bound : ℕ) (turns more : List Turn) (start now : World) (job : ℕ) (handling : Handling) →
-    Starts limit start → AreDisciplined bound (turns ++ more) → Runs start turns now → job < bound →
+pub handlings_law : (limits : List ℕ) (bound : ℕ) (turns more : List Turn) (start now : World) (job : ℕ)
+    (handling : Handling) →
+    Starts limits start → AreDisciplined bound (turns ++ more) → Runs start turns now → job < bound →
     (now.story.found job).handled ≡ Some handling → IsHandled now handling
-handlings_law limit bound turns more start now job handling s a r lt e =
-    (((reach_found limit bound turns more start now s a r).1 job lt).handled handling e).1
+handlings_law limits bound turns more start now job handling s a r lt e =
+    (((reach_found limits bound turns more start now s a r).1 job lt).handled handling e).1

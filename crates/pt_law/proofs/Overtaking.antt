@@ -60,13 +60,13 @@ era_by t (change.Resolve number) (event.Resolved resolved) after h n = ap (λ (z
 era_by t (change.Unpin serial) (event.Done closings) after h n = unpins era_of no_rows t serial closings after h
 era_by t (change.Claim claim) (event.Claimed given) after h n = ap (λ (z : Tables). z.era) h.1.4.2
 era_by t (change.Claim claim) event.Absent after h n = ap (λ (z : Tables). z.era) h.2
-era_by t change.TakeFd event.Taken after h n = ap (λ (z : Tables). z.era) h.2
-era_by t change.GiveFd event.Given after h n = ap (λ (z : Tables). z.era) h.1
+era_by t (change.TakeFd class) event.Taken after h n = ap (λ (z : Tables). z.era) h.2
+era_by t (change.GiveFd class) event.Given after h n = ap (λ (z : Tables). z.era) h.1
 era_by t change.DrawNode (event.Drawn number) after h n = ap (λ (z : Tables). z.era) h.2
 era_by t (change.Insert new) (event.Inserted given) after h n = ap (λ (z : Tables). z.era) h.4
 era_by t (change.Insert new) (event.Found given) after h n = ap (λ (z : Tables). z.era) h.1.4.2
 era_by t (change.InsertRoot new) (event.Inserted given) after h n =
-    ap (λ (z : Tables). z.era) h.4 ∙ said new.negotiated (with_row t (new_row t 1 new.form new.ids new.mode 2))
+    ap (λ (z : Tables). z.era) h.4 ∙ said new.negotiated (with_row t (new_row t 1 new.form new.ids new.mode 0 2))
 era_by t (change.Forget list) (event.Done closings) after h n = forgets_all era_of no_rows t list closings after h
 era_by t (change.GiveBack era number) (event.Done closings) after h n =
     forgets_one era_of no_rows t number 1 closings after h.2
@@ -284,18 +284,19 @@ asked_era t t' job after (Some (Changes (change.InsertHandle new))) (Event (even
     (new.era, m.1.0, (cases t t' (change.InsertHandle new) (event.Refused Overtaken) g).2)
 asked_era t t' job after deed told g m o = absurd o
 
-pub overtaken_law : (limit bound : ℕ) (turns : List Turn) (turn : Turn) (more : List Turn) (now next : Tables) →
-    AreDisciplined bound (turns ++ turn ∷ more) → TablesRun (empty_tables limit) turns now →
+pub overtaken_law : (limits : List ℕ) (bound : ℕ) (turns : List Turn) (turn : Turn) (more : List Turn)
+    (now next : Tables) →
+    AreDisciplined bound (turns ++ turn ∷ more) → TablesRun (empty_tables limits) turns now →
     TablesGo now turn.step.deed turn.step.reply next → TellsOvertaken turn.step.deed turn.step.reply →
     IsOvertaken turn.job turns
-overtaken_law limit bound turns turn more now next a r g o =
+overtaken_law limits bound turns turn more now next a r g o =
     let ends = choose (λ j job.
     Between (steps_of j turns) (steps_of j (turn ∷ more)) job) bound idle (between bound turns (turn ∷ more) a) in
     let lt = owner_of bound turns turn more a.owners in
     let own = ends.1 turn.job lt in
     let m = next_move turn more (ends.0 turn.job) own.1 own.2 in
     let asked = asked_era now next (ends.0 turn.job) m.0 turn.step.deed turn.step.reply g m.1 o in
-    let k = right_runs bound [] turns (empty_tables limit) now (λ j.
+    let k = right_runs bound [] turns (empty_tables limits) now (λ j.
     idle) ends.0 r (each_front (λ s. s.job < bound) turns (turn ∷ more) a.owners) (λ j era e. absurd (cc)) (λ j l.
     (ends.1 j l).0) turn.job lt asked.0 asked.1 in
     ⊎_elim (λ (e : asked.0 ≡ now.era). absurd (asked.2 e)) (λ (x : IsOvertaken turn.job turns). x) k.1
@@ -375,12 +376,12 @@ begins_where first [] more last b = b
 begins_where first (step ∷ rest) more last b = b
 
 -- who began before another's clearing is given nothing after it
-shut_out : (limit bound : ℕ) (turns : List Turn) (turn : Turn) (more : List Turn) (now next : Tables)
+shut_out : (limits : List ℕ) (bound : ℕ) (turns : List Turn) (turn : Turn) (more : List Turn) (now next : Tables)
     (first : Step) (rest : List Step) (o : IsOvertaken turn.job turns) → steps_of turn.job o.before ≡ first ∷ rest →
     BeginsFirst (steps_of turn.job (turns ++ turn ∷ more)) → AreDisciplined bound (turns ++ turn ∷ more) →
-    TablesRun (empty_tables limit) turns now → TablesGo now turn.step.deed turn.step.reply next →
+    TablesRun (empty_tables limits) turns now → TablesGo now turn.step.deed turn.step.reply next →
     TellsGiven turn.step.deed turn.step.reply → ⊥
-shut_out limit bound turns turn more now next first rest o e begins a r g given =
+shut_out limits bound turns turn more now next first rest o e begins a r g given =
     let j = turn.job in
     let own = between bound turns (turn ∷ more) a j (owner_of bound turns turn more a.owners) in
     let move = next_move turn more own.0 own.1.1 own.1.2 in
@@ -395,11 +396,11 @@ shut_out limit bound turns turn more now next first rest o e begins a r g given 
     (subst BeginsFirst all_steps begins) in
     let d = subst (λ z. Disciplined idle z own.0) own_steps own.1.0 in
     let l = located j o.before [] first rest e in
-    let run : TablesRun (empty_tables limit) (l.0 ++ turn_by j first ∷ (l.1 ++ o.clearing ∷ o.later)) now =
-    subst (λ z. TablesRun (empty_tables limit) z now)
+    let run : TablesRun (empty_tables limits) (l.0 ++ turn_by j first ∷ (l.1 ++ o.clearing ∷ o.later)) now =
+    subst (λ z. TablesRun (empty_tables limits) z now)
     (o.in_turn ∙ ap (λ z. z ++ o.clearing ∷ o.later) l.2
     ∙ append_assoc l.0 (turn_by j first ∷ l.1) (o.clearing ∷ o.later)) r in
-    let c = tables_split l.0 (turn_by j first ∷ (l.1 ++ o.clearing ∷ o.later)) (empty_tables limit) now run in
+    let c = tables_split l.0 (turn_by j first ∷ (l.1 ++ o.clearing ∷ o.later)) (empty_tables limits) now run in
     let k = tables_split l.1 (o.clearing ∷ o.later) c.2.0 now c.2.2 in
     let noted = noted_steps d.0 own.0 (rest ++ own_later) c.2.0.era d.2
     (begun_era c.0 c.2.0 idle d.0 first.deed first.reply begun c.2.1 d.1) in
@@ -410,12 +411,13 @@ shut_out limit bound turns turn more now next first rest o e begins a r g given 
     let to_now = era_grows o.later k.2.0 now k.2.2 in
     absurd (omega (arith, same, to_clear, clears, to_now))
 
-pub shut_out_law : (limit bound : ℕ) (turns : List Turn) (turn : Turn) (more : List Turn) (now next : Tables) →
+pub shut_out_law : (limits : List ℕ) (bound : ℕ) (turns : List Turn) (turn : Turn) (more : List Turn)
+    (now next : Tables) →
     BeginsFirst (steps_of turn.job (turns ++ turn ∷ more)) → AreDisciplined bound (turns ++ turn ∷ more) →
-    TablesRun (empty_tables limit) turns now → TablesGo now turn.step.deed turn.step.reply next →
+    TablesRun (empty_tables limits) turns now → TablesGo now turn.step.deed turn.step.reply next →
     IsOvertaken turn.job turns → TellsGiven turn.step.deed turn.step.reply → ⊥
-shut_out_law limit bound turns turn more now next begins a r g o given = go (steps_of turn.job o.before) refl
+shut_out_law limits bound turns turn more now next begins a r g o given = go (steps_of turn.job o.before) refl
   where
     go : (steps : List Step) → steps_of turn.job o.before ≡ steps → ⊥
     go [] e = o.begun e
-    go (first ∷ rest) e = shut_out limit bound turns turn more now next first rest o e begins a r g given
+    go (first ∷ rest) e = shut_out limits bound turns turn more now next first rest o e begins a r g given

@@ -496,11 +496,12 @@ fine_walk bound ends (turn ∷ turns) rest kept t last js f p r =
     (λ so_far more job closings list e n. p (turn ∷ so_far) more job closings list (ap (λ (s : List Turn). turn ∷ s) e) n)
     r.2
 
-begins_fine : (limit bound : ℕ) (ends : ℕ → Finish) (turns : List Turn) → Each (λ (turn : Turn). turn.job < bound) turns →
+begins_fine : (limits : List ℕ) (bound : ℕ) (ends : ℕ → Finish) (turns : List Turn) → Each
+    (λ (turn : Turn). turn.job < bound) turns →
     ((j : ℕ) → j < bound → ComesToEnd idle (steps_of j turns) (ends j)) →
-    Fine bound ends (empty_tables limit) [] turns (λ j. idle)
-begins_fine limit bound ends turns owners comes = record {
-  agree = empty_agree limit;
+    Fine bound ends (empty_tables limits) [] turns (λ j. idle)
+begins_fine limits bound ends turns owners comes = record {
+  agree = empty_agree limits;
   sums = λ n. let z = sum_to_zero (held_of (λ j. idle) 0 n) bound (λ j l. refl) in omega (arith, z);
   polite = λ n. omega arith;
   jobs = λ j l. record {
@@ -514,14 +515,14 @@ begins_fine limit bound ends turns owners comes = record {
 }
 
 -- at the end each number's count is its outstanding entries less what was asked of them
-pub polite_counts : (limit bound : ℕ) (ends : ℕ → Finish) (turns : List Turn) (last : Tables) →
+pub polite_counts : (limits : List ℕ) (bound : ℕ) (ends : ℕ → Finish) (turns : List Turn) (last : Tables) →
     Each (λ (turn : Turn). turn.job < bound) turns →
     ((j : ℕ) → j < bound → ComesToEnd idle (steps_of j turns) (ends j)) → IsPolite bound ends turns →
-    TablesRun (empty_tables limit) turns last → CountsOutstanding bound ends turns last
-polite_counts limit bound ends turns last owners comes p r n =
-    let begun = begins_fine limit bound ends turns owners comes in
-    let w = fine_walk bound ends turns [] [] (empty_tables limit) last (λ j. idle)
-    (subst (λ (s : List Turn). Fine bound ends (empty_tables limit) [] s (λ j. idle)) (sym (append-nil turns)) begun)
+    TablesRun (empty_tables limits) turns last → CountsOutstanding bound ends turns last
+polite_counts limits bound ends turns last owners comes p r n =
+    let begun = begins_fine limits bound ends turns owners comes in
+    let w = fine_walk bound ends turns [] [] (empty_tables limits) last (λ j. idle)
+    (subst (λ (s : List Turn). Fine bound ends (empty_tables limits) [] s (λ j. idle)) (sym (append-nil turns)) begun)
     (subst (λ (s : List Turn). Polite bound ends [] s) (sym (append-nil turns)) p) r in
     let f = w.1 in
     let a = sum_le (out_of ends n (recent turns) []) (held_of w.0 last.era n) bound (λ j l.
@@ -554,17 +555,17 @@ told_one bound ends so_far rest job era n (Event r) t t' js f c g =
 told_one bound ends so_far rest job era n (Host r) t t' js f c g = absurd g
 told_one bound ends so_far rest job era n NoCopy t t' js f c g = absurd g
 
-pub polite_gives_back : (limit bound : ℕ) (ends : ℕ → Finish) (turns : List Turn) (last : Tables) →
+pub polite_gives_back : (limits : List ℕ) (bound : ℕ) (ends : ℕ → Finish) (turns : List Turn) (last : Tables) →
     Each (λ (turn : Turn). turn.job < bound) turns →
     ((j : ℕ) → j < bound → ComesToEnd idle (steps_of j turns) (ends j)) → IsPolite bound ends turns →
-    TablesRun (empty_tables limit) turns last → TakesOneEach turns
-polite_gives_back limit bound ends turns last owners comes p r so_far rest job era n told e =
-    let begun = begins_fine limit bound ends turns owners comes in
+    TablesRun (empty_tables limits) turns last → TakesOneEach turns
+polite_gives_back limits bound ends turns last owners comes p r so_far rest job era n told e =
+    let begun = begins_fine limits bound ends turns owners comes in
     let turn : Turn = turn_by job (made (Changes (change.GiveBack era n)) told) in
-    let cut = tables_split so_far (turn ∷ rest) (empty_tables limit) last
-    (subst (λ (s : List Turn). TablesRun (empty_tables limit) s last) e r) in
-    let w = fine_walk bound ends so_far (turn ∷ rest) [] (empty_tables limit) cut.0 (λ j. idle)
-    (subst (λ (s : List Turn). Fine bound ends (empty_tables limit) [] s (λ j. idle)) e begun)
+    let cut = tables_split so_far (turn ∷ rest) (empty_tables limits) last
+    (subst (λ (s : List Turn). TablesRun (empty_tables limits) s last) e r) in
+    let w = fine_walk bound ends so_far (turn ∷ rest) [] (empty_tables limits) cut.0 (λ j. idle)
+    (subst (λ (s : List Turn). Fine bound ends (empty_tables limits) [] s (λ j. idle)) e begun)
     (subst (λ (s : List Turn). Polite bound ends [] s) e p) cut.1 in
     told_one bound ends so_far rest job era n told cut.0 cut.2.0 w.0 w.1
-    (counts_run n so_far (empty_tables limit) cut.0 (empty_agree limit) cut.1) cut.2.1
+    (counts_run n so_far (empty_tables limits) cut.0 (empty_agree limits) cut.1) cut.2.1

@@ -77,15 +77,15 @@ object_stays (s ∷ ss) start now n o live r at =
 some_same : {a b : ℕ} → Some a ≡ Some b → a ≡ b
 some_same e = cc
 
-pub one_number_law : (limit bound : ℕ) (turns between more : List Turn) (start first second : World)
+pub one_number_law : (limits : List ℕ) (bound : ℕ) (turns between more : List Turn) (start first second : World)
     (number other object : ℕ) →
-    Starts limit start → AreDisciplined bound ((turns ++ between) ++ more) → Runs start turns first →
+    Starts limits start → AreDisciplined bound ((turns ++ between) ++ more) → Runs start turns first →
     Runs first between second →
     StaysLive first between number → ObjectOf first number object → IsLive second.tables other →
     ObjectOf second other object → other ≡ number
-one_number_law limit bound turns between more start first second n m o s a r k live at lives has =
+one_number_law limits bound turns between more start first second n m o s a r k live at lives has =
     let whole = runs_append turns between start first second r k in
-    let d = distinct_law limit bound (turns ++ between) more start second s a whole in
+    let d = distinct_law limits bound (turns ++ between) more start second s a whole in
     let still = object_stays between first second n o live k at in
     let alive = live between [] second (sym (append-nil between)) k in
     ⊎_elim (λ (e : m ≡ n). e) (λ (e : m ≢ n).
@@ -187,17 +187,18 @@ pub inserted_append : (n : ℕ) (turns more : List Turn) → inserted n (turns +
 inserted_append n [] more = omega arith
 inserted_append n (s ∷ ss) more = let h = inserted_append n ss more in omega (arith, h)
 
-pub never_again_law : (limit bound : ℕ) (turns later more : List Turn) (was now : Tables) (number : ℕ) → number ≢ 1 →
-    AreDisciplined bound ((turns ++ later) ++ more) → TablesRun (empty_tables limit) turns was →
+pub never_again_law : (limits : List ℕ) (bound : ℕ) (turns later more : List Turn) (was now : Tables) (number : ℕ) →
+    number ≢ 1 →
+    AreDisciplined bound ((turns ++ later) ++ more) → TablesRun (empty_tables limits) turns was →
     TablesRun was later now →
     0 < inserted number turns → NoRow was (HasNumber number) →
     NoRow now (HasNumber number) × (inserted number later ≡ 0)
-never_again_law limit bound turns later more was now n ne d r k some none =
-    let once = once_law limit bound (turns
-    ++ later) more now n d (tables_append turns later (empty_tables limit) was now r k) ne in
+never_again_law limits bound turns later more was now n ne d r k some none =
+    let once = once_law limits bound (turns
+    ++ later) more now n d (tables_append turns later (empty_tables limits) was now r k) ne in
     let all = inserted_append n turns later in
     let not_again : inserted n later ≡ 0 = omega (arith, once, all, some) in
-    (stays_gone n later was now (agree_law limit turns was r) (none_other n was.rows none) k not_again, not_again)
+    (stays_gone n later was now (agree_law limits turns was r) (none_other n was.rows none) k not_again, not_again)
 
 pub refused_law : (before after : Tables) (number : ℕ) (told : EventReply) → NoRow before (HasNumber number) →
     Happens before (change.Resolve number) told after → (told ≡ event.Refused NotLive) × (after ≡ before)

@@ -111,15 +111,15 @@ from_start steps last was d e = elim (resolved_last idle steps last was d e) [
   | inr k ↦ absurd (let none = k.0 in cc)
 ]
 
-pub reopened_law : (limit bound : ℕ) (turns more : List Turn) (start now : World) → Starts limit start →
+pub reopened_law : (limits : List ℕ) (bound : ℕ) (turns more : List Turn) (start now : World) → Starts limits start →
     AreDisciplined bound (turns ++ more) → Runs start turns now → ReopensResolved turns now
-reopened_law limit bound turns more start now s a r before job fd new flags e =
+reopened_law limits bound turns more start now s a r before job fd new flags e =
     let turn = reopening job fd flags new in
     let whole : turns ++ more ≡ before ++ turn ∷ more =
     ap (λ (t : List Turn). t ++ more) e ∙ append_assoc before (turn ∷ []) more in
     let lt = owner_of bound before turn more (subst (λ (t : List Turn). Each (λ (s : Turn). s.job < bound) t) whole
     a.owners) in
-    let v = reach limit bound turns more start now s a r in
+    let v = reach limits bound turns more start now s a r in
     let steps : steps_of job turns ≡ steps_of job before ++ turn.step ∷ [] =
     ap (steps_of job) e ∙ steps_append job before (turn ∷ [])
     ∙ ap (λ (x : List Step). steps_of job before ++ x) (steps_at job turn [] refl) in

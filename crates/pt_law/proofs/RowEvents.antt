@@ -68,11 +68,11 @@ rows_other tree past next number given fd o (row ∷ rows) e s free h = (
 )
 
 row_comes : (tree : Tree) (past : Past) (t : Tables) (number given : ℕ) (form : RowForm) (ids : ObjIds)
-    (mode count : ℕ) (o : Option ℕ) → Agree t → given ≡ number → IsFree t number ids →
+    (mode class count : ℕ) (o : Option ℕ) → Agree t → given ≡ number → IsFree t number ids →
     (object : ℕ) × Shows tree (fd_of form) object ids × (o ≡ Some object) → Each (RowOpen tree past) t.rows →
     Each (RowOpen tree (settled past given t.next_row (fd_of form) o))
-    (with_row t (new_row t number form ids mode count)).rows
-row_comes tree past t number given form ids mode count o a e free h rows = (
+    (with_row t (new_row t number form ids mode class count)).rows
+row_comes tree past t number given form ids mode class count o a e free h rows = (
   record {
     object = h.0;
     shows = h.1;
@@ -158,7 +158,7 @@ handles_event tree past t j job after (change.Insert new) (event.Inserted given)
 handles_event tree past t j job after (change.InsertRoot new)
     (event.Inserted given) t' a h m k rows =
     rw (ap (λ (z : Tables). z.handles) h.4
-    ∙ agreed_handles new.negotiated (with_row t (new_row t 1 new.form new.ids new.mode 2)))
+    ∙ agreed_handles new.negotiated (with_row t (new_row t 1 new.form new.ids new.mode 0 2)))
     (handles_place tree past (settled past given t.next_row (fd_of new.form) (past.roots j)) t.next_row (fd_of new.form)
     (past.roots j) t.handles refl refl a.sound_handles rows)
 handles_event tree past t j job after (change.InsertHandle new)
@@ -193,14 +193,14 @@ pub rows_event : (tree : Tree) (past : Past) (t : Tables) (j : ℕ) (job after :
     Each (RowOpen tree (settled_by past j (Changes e) (Event r) t.next_row tree)) t'.rows
 rows_event tree past t j job after (change.Insert new) (event.Inserted given) t' a h m k rows =
     let fit = m.1 in
-    rw h.4 (row_comes tree past t new.number given new.form new.ids new.mode 1 (past.latest j) a h.3 h.1
+    rw h.4 (row_comes tree past t new.number given new.form new.ids new.mode new.class 1 (past.latest j) a h.3 h.1
     (told_noted tree (fd_of new.form) new.ids (past.latest j) job k.told fit.3 (k.latest (fd_of new.form) fit.1)) rows)
 rows_event tree past t j job after (change.InsertRoot new)
     (event.Inserted given) t' a h m k rows =
     let fit = m.1 in
     rw h.4 (agreed_rows (RowOpen tree (settled past given t.next_row (fd_of new.form) (past.roots j))) new.negotiated
-    (with_row t (new_row t 1 new.form new.ids new.mode 2))
-    (row_comes tree past t 1 given new.form new.ids new.mode 2 (past.roots j) a h.3 h.1
+    (with_row t (new_row t 1 new.form new.ids new.mode 0 2))
+    (row_comes tree past t 1 given new.form new.ids new.mode 0 2 (past.roots j) a h.3 h.1
     (told_noted tree (fd_of new.form) new.ids (past.roots j) job k.told fit.2 (k.root (fd_of new.form) fit.1)) rows))
 rows_event tree past t j job after (change.InsertHandle new) (event.Inserted given) t' a h m k rows =
     rw h.4 (each_both (IsSoundRow t.next_row) (RowOpen tree past)

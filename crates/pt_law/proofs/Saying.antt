@@ -27,7 +27,7 @@ abbrev no_tree : Tree
 no_tree = record { objects = []; names = λ dir name. None; opened = λ fd. None }
 
 abbrev nowhere : World
-nowhere = record { tree = no_tree; tables = empty_tables 0; past = no_past; story = no_story }
+nowhere = record { tree = no_tree; tables = empty_tables []; past = no_past; story = no_story }
 
 -- what a step says, and all of a list
 abbrev pub says : Findings → Step → Findings
@@ -160,9 +160,9 @@ runs_say j (s ∷ ss) w last r =
         ∙ ap (said (bare (w.story.found j))) (sym (steps_past j s ss e))
 
 -- from the beginning of a run on
-pub said_law : (limit : ℕ) (j : ℕ) (turns : List Turn) (start last : World) → Starts limit start →
+pub said_law : (limits : List ℕ) (j : ℕ) (turns : List Turn) (start last : World) → Starts limits start →
     Runs start turns last → bare (last.story.found j) ≡ said nothing_found (steps_of j turns)
-said_law limit j turns start last s r =
+said_law limits j turns start last s r =
     runs_say j turns start last r
     ∙ ap (λ (y : Story). said (bare (y.found j)) (steps_of j turns)) s.story
 

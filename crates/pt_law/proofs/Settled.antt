@@ -29,9 +29,9 @@ count_of era number one = 0
 brings_none : (e n : ℕ) (brings : Taken) (holds : List Hold) →
     total (count_of e n) (brought brings ++ holds) ≡ total (count_of e n) holds
 brings_none e n taken.Nothing holds = refl
-brings_none e n taken.Slot holds = omega arith
-brings_none e n (taken.Fd fd true) holds = omega arith
-brings_none e n (taken.Fd fd false) holds = omega arith
+brings_none e n (taken.Slot class) holds = omega arith
+brings_none e n (taken.Fd fd true class) holds = omega arith
+brings_none e n (taken.Fd fd false class) holds = omega arith
 
 pub one_given : (e n : ℕ) (deed : Deed) (told : ActReply) (holds after : List Hold) → Shifts holds deed told after →
     total (count_of e n) after + count_ended e n deed told ≡ total (count_of e n) holds + count_made e n deed told
@@ -44,9 +44,11 @@ one_given e n (Changes (change.Unpin row)) told holds after s = let k = total_ta
     omega (arith, k)
 one_given e n (Changes (change.Claim claim)) (Event (event.Claimed given)) holds after s =
     let k = total_takes (count_of e n) s in omega (arith, k)
-one_given e n (Changes change.TakeFd) (Event event.Taken) holds after s = let k = total_takes (count_of e n) s in
+one_given e n (Changes (change.TakeFd class)) (Event event.Taken) holds after s = let k = total_takes (count_of e n)
+    s in
     omega (arith, k)
-one_given e n (Changes change.GiveFd) told holds after s = let k = total_takes (count_of e n) s in omega (arith, k)
+one_given e n (Changes (change.GiveFd class)) told holds after s = let k = total_takes (count_of e n) s in omega
+    (arith, k)
 one_given e n (Changes (change.Insert new)) (Event (event.Inserted given)) holds after s =
     let a = total_takes (count_of e n) s.2 in
     let b = total_takes (count_of e n) s.3 in

@@ -61,21 +61,21 @@ goes_on : (rest : Grammar) (holds : List Hold) (count : ℕ) (notes later : Note
 goes_on rest holds count notes later l k = λ last m. k last (lasts_on notes later last l m)
 
 -- a slot that is given back brings no closing
-gave_none : (told : ActReply) → closings_in (Changes change.GiveFd) told ≡ 0
-gave_none (Event told) = refl
-gave_none (Host told) = refl
-gave_none NoCopy = refl
+gave_none : (class : ℕ) (told : ActReply) → closings_in (Changes (change.GiveFd class)) told ≡ 0
+gave_none class (Event told) = refl
+gave_none class (Host told) = refl
+gave_none class NoCopy = refl
 
 -- what a closing brought
-sound_slot : (count : ℕ) (holds : List Hold) (rest : Grammar) (notes : Notes) → notes.brought ≡ None →
-    StaysSound rest holds count notes → Sound (give_slot true count holds rest)
-    (owing_job (hold.Slot ∷ unscoped holds) count notes)
-sound_slot count holds rest notes b k = (
+sound_slot : (class count : ℕ) (holds : List Hold) (rest : Grammar) (notes : Notes) → notes.brought ≡ None →
+    StaysSound rest holds count notes → Sound (give_slot true class count holds rest)
+    (owing_job (hold.Slot class ∷ unscoped holds) count notes)
+sound_slot class count holds rest notes b k = (
   (refl, refl, b),
   (λ step i t. (
     owing_job (unscoped holds) count notes,
-    made_moves (Changes change.GiveFd) step.deed step.reply _ _ (λ no. no) i
-        (here, tt, (let a = gave_none step.reply in omega (arith, a)), refl),
+    made_moves (Changes (change.GiveFd class)) step.deed step.reply _ _ (λ no. no) i
+        (here, tt, (let a = gave_none class step.reply in omega (arith, a)), refl),
     k notes (refl, refl, refl, refl, b),
   )),
 )
@@ -88,18 +88,18 @@ sound_taken : (brings : Taken) (count : ℕ) (holds : List Hold) (rest : Grammar
     notes.brought ≡ taken_fd brings → StaysSound rest holds count notes →
     Sound (give_taken brings count holds rest) (owing_job (brought brings ++ unscoped holds) count notes)
 sound_taken taken.Nothing count holds rest notes b k = k notes (refl, refl, refl, refl, b)
-sound_taken taken.Slot count holds rest notes b k = sound_slot count holds rest notes b k
-sound_taken (taken.Fd fd true) count holds rest notes b k = (
+sound_taken (taken.Slot class) count holds rest notes b k = sound_slot class count holds rest notes b k
+sound_taken (taken.Fd fd true class) count holds rest notes b k = (
   (refl, refl, b),
   (λ step i t.
       let none = none_left fd notes.brought b in (
-        owing_job (hold.Slot ∷ unscoped holds) count (ended fd notes),
+        owing_job (hold.Slot class ∷ unscoped holds) count (ended fd notes),
         made_moves (Calls (call.Close fd)) step.deed step.reply _ _ (λ no. no) i (here, tt, omega arith, refl),
-        sound_slot count holds rest (ended fd notes) none
+        sound_slot class count holds rest (ended fd notes) none
             (goes_on rest holds count notes (ended fd notes) (refl, refl, refl, refl, none) k),
       )),
 )
-sound_taken (taken.Fd fd false) count holds rest notes b k = (
+sound_taken (taken.Fd fd false class) count holds rest notes b k = (
   (refl, refl, b),
   (λ step i t. (
     owing_job (unscoped holds) count (ended fd notes),
@@ -193,7 +193,7 @@ sound_scope seat hold.Umask holds left next notes b e t k = (
 sound_scope seat (hold.Pin row fd) holds left next notes b e t k = absurd (cc)
 sound_scope seat (hold.HandlePin row fd) holds left next notes b e t k = absurd (cc)
 sound_scope seat (hold.Fd fd) holds left next notes b e t k = absurd (cc)
-sound_scope seat hold.Slot holds left next notes b e t k = absurd (cc)
+sound_scope seat (hold.Slot class) holds left next notes b e t k = absurd (cc)
 sound_scope seat (hold.Count era number) holds left next notes b e t k = absurd (cc)
 
 pub sound_leave : (seat : HostSeat) (holds : List Hold) (last : Finish) (notes : Notes) → notes.brought ≡ None →

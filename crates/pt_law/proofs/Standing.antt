@@ -117,13 +117,13 @@ stands_by n t (change.Unpin serial) (event.Done closings) after h =
     unpins (live_handles n) (no_numbers n) t serial closings after h
 stands_by n t (change.Claim claim) (event.Claimed given) after h = ap (live_handles n) h.1.4.2
 stands_by n t (change.Claim claim) event.Absent after h = ap (live_handles n) h.2
-stands_by n t change.TakeFd event.Taken after h = ap (live_handles n) h.2
-stands_by n t change.GiveFd event.Given after h = ap (live_handles n) h.1
+stands_by n t (change.TakeFd class) event.Taken after h = ap (live_handles n) h.2
+stands_by n t (change.GiveFd class) event.Given after h = ap (live_handles n) h.1
 stands_by n t change.DrawNode (event.Drawn number) after h = ap (live_handles n) h.2
 stands_by n t (change.Insert new) (event.Inserted given) after h = ap (live_handles n) h.4
 stands_by n t (change.Insert new) (event.Found given) after h = ap (live_handles n) h.1.4.2
 stands_by n t (change.InsertRoot new) (event.Inserted given) after h =
-    ap (live_handles n) h.4 ∙ said n new.negotiated (with_row t (new_row t 1 new.form new.ids new.mode 2))
+    ap (live_handles n) h.4 ∙ said n new.negotiated (with_row t (new_row t 1 new.form new.ids new.mode 0 2))
 stands_by n t (change.Forget list) (event.Done closings) after h =
     forgets_all (live_handles n) (no_numbers n) t list closings after h
 stands_by n t (change.GiveBack era number) (event.Done closings) after h =
@@ -160,7 +160,7 @@ stands_run n (s ∷ ss) t last r =
     stands_run n ss r.0 last r.2
     ∙ ap (λ g. after_all (standing_by n) g ss) (stands_step n t s.step.deed s.step.reply r.0 r.1)
 
-pub standing_law : (limit : ℕ) (turns : List Turn) (now : Tables) (handle : ℕ) →
-    TablesRun (empty_tables limit) turns now → IsStanding now handle (standing handle turns)
-standing_law limit turns now handle r =
-    subst (IsStanding now handle) (stands_run handle turns (empty_tables limit) now r) (stands handle now)
+pub standing_law : (limits : List ℕ) (turns : List Turn) (now : Tables) (handle : ℕ) →
+    TablesRun (empty_tables limits) turns now → IsStanding now handle (standing handle turns)
+standing_law limits turns now handle r =
+    subst (IsStanding now handle) (stands_run handle turns (empty_tables limits) now r) (stands handle now)

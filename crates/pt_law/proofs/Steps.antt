@@ -98,17 +98,17 @@ keeps_tabled bound had t js j (Some deed) told t' after lt v g m = record {
 
 -- no slot that a step gives back is refused
 abbrev pub HasFlows : Option Deed → ActReply → Type 0
-HasFlows deed told = weighed slot_in deed told ≡ weighed slot_given deed told
+HasFlows deed told = (class : ℕ) → weighed (slot_in class) deed told ≡ weighed (slot_given class) deed told
 
 flows_by : (t : Tables) (e : Change) (r : EventReply) (t' : Tables) → Case t e r t' →
     IsHonest (Changes e) (Event r) → HasFlows (Some (Changes e)) (Event r)
-flows_by t change.GiveFd event.Given t' h a = refl
-flows_by t change.GiveFd (event.Refused why) t' h a = absurd a
-flows_by t (change.Insert new) (event.Inserted given) t' h a = refl
-flows_by t (change.InsertRoot new) (event.Inserted given) t' h a = refl
-flows_by t (change.InsertHandle new) (event.Inserted given) t' h a = refl
-flows_by t change.GiveFd _ t' h a = absurd h
-flows_by t _ _ t' h a = refl
+flows_by t (change.GiveFd its) event.Given t' h a = λ class. refl
+flows_by t (change.GiveFd class) (event.Refused why) t' h a = absurd a
+flows_by t (change.Insert new) (event.Inserted given) t' h a = λ class. refl
+flows_by t (change.InsertRoot new) (event.Inserted given) t' h a = λ class. refl
+flows_by t (change.InsertHandle new) (event.Inserted given) t' h a = λ class. refl
+flows_by t (change.GiveFd class) _ t' h a = absurd h
+flows_by t _ _ t' h a = λ class. refl
 
 event_flows : (t : Tables) (e : Change) (r : EventReply) (t' : Tables) → Happens t e r t' →
     IsHonest (Changes e) (Event r) → HasFlows (Some (Changes e)) (Event r)
@@ -119,9 +119,9 @@ pub has_flows : (bound : ℕ) (had : ℕ → ℕ) (t : Tables) (js : ℕ →
     Tabled bound had t js → TablesGo t deed told t' → MovesIf (js j) deed told after → HasFlows deed told
 has_flows bound had t js j (Some (Changes e)) (Event r) t' after lt v g m =
     event_flows t e r t' g (honest bound t js j e r t' after lt v.books g m)
-has_flows bound had t js j (Some (Calls a)) (Host r) t' after lt v g m = refl
-has_flows bound had t js j (Some (Calls a)) NoCopy t' after lt v g m = refl
-has_flows bound had t js j None NoCopy t' after lt v g m = refl
+has_flows bound had t js j (Some (Calls a)) (Host r) t' after lt v g m = λ class. refl
+has_flows bound had t js j (Some (Calls a)) NoCopy t' after lt v g m = λ class. refl
+has_flows bound had t js j None NoCopy t' after lt v g m = λ class. refl
 has_flows bound had t js j _ _ t' after lt v g m = absurd g
 
 -- what a made step does to the tables
@@ -203,7 +203,7 @@ keeps_event bound base had w js j e r t' story after lt v h m =
       fds = λ fd.
           let x = v.fds fd in
           let y = (handed (js j).holds (Changes e) (Event r) after.holds m.0).fds fd in
-          let z = (moved w.tables e r t' h (honest bound w.tables js j e r t' after lt v.tabled.books h m)).fds fd in
+          let z = (moved w.tables e r t' a h (honest bound w.tables js j e r t' after lt v.tabled.books h m)).fds fd in
           let s = sum_to_set (λ (k : Job). total (fd_held fd) k.holds) js j after bound lt in
           omega (arith, x, y, z, s);
       right = record {

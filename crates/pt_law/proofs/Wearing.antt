@@ -39,8 +39,8 @@ use Rattle.pt_law.proofs.Moving.{told_of}
 abbrev pub OwesBare : Taken → ℕ → List Hold → Type 0
 OwesBare taken.Nothing zero scopes = Unit {0}
 OwesBare taken.Nothing (suc count) scopes = scopes ≡ []
-OwesBare taken.Slot count scopes = scopes ≡ []
-OwesBare (taken.Fd fd slot) count scopes = scopes ≡ []
+OwesBare (taken.Slot class) count scopes = scopes ≡ []
+OwesBare (taken.Fd fd slot class) count scopes = scopes ≡ []
 
 -- what is owed can be given back from here, to the seat from which the job began
 pub record Returns (seat : HostSeat) (owed : Owed) (now : HostSeat) : Type 0 where
@@ -140,8 +140,8 @@ lost_any role seat (May one other) errno now =
 bare_owed : (brings : Taken) (count : ℕ) → OwesBare brings count []
 bare_owed taken.Nothing zero = tt
 bare_owed taken.Nothing (suc count) = refl
-bare_owed taken.Slot count = refl
-bare_owed (taken.Fd fd slot) count = refl
+bare_owed (taken.Slot class) count = refl
+bare_owed (taken.Fd fd slot class) count = refl
 
 plain_do : (role : Role) (seat : HostSeat) (deed : Deed) (brings : Taken) (count : ℕ)
     (holds : List Hold) (next : ActReply → Grammar) → is_of_seat deed ≡ false → IsMadeAs role seat seat (Some deed) →
@@ -158,21 +158,24 @@ plain_do role seat deed brings count holds next e m c k = (
       (sym (step_seat seat deed step.deed step.reply i ∙ deed_leaves seat deed step.reply e)) (k step.reply)),
 )
 
-slot_seated : (role : Role) (seat : HostSeat) (slot : Bool) (count : ℕ) (holds : List Hold)
+slot_seated : (role : Role) (seat : HostSeat) (slot : Bool) (class count : ℕ) (holds : List Hold)
     (rest : Grammar) → Clear holds → Seated role seat rest None seat →
-    Seated role seat (give_slot slot count holds rest) None seat
-slot_seated role seat true count holds rest c k =
-    plain_do role seat (Changes change.GiveFd) taken.Slot count holds (λ told. rest) refl refl c (λ told. k)
-slot_seated role seat false count holds rest c k = k
+    Seated role seat (give_slot slot class count holds rest) None seat
+slot_seated role seat true class count holds rest c k =
+    plain_do role seat (Changes (change.GiveFd class)) (taken.Slot class) count holds (λ told. rest) refl refl c
+    (λ told.
+    k)
+slot_seated role seat false class count holds rest c k = k
 
 taken_seated : (role : Role) (seat : HostSeat) (brings : Taken) (count : ℕ) (holds : List Hold)
     (rest : Grammar) → Clear holds → Seated role seat rest None seat →
     Seated role seat (give_taken brings count holds rest) None seat
 taken_seated role seat taken.Nothing count holds rest c k = k
-taken_seated role seat taken.Slot count holds rest c k = slot_seated role seat true count holds rest c k
-taken_seated role seat (taken.Fd fd slot) count holds rest c k =
-    plain_do role seat (Calls (call.Close fd)) (taken.Fd fd slot) count holds
-    (λ told. give_slot slot count holds rest) refl refl c (λ told. slot_seated role seat slot count holds rest c k)
+taken_seated role seat (taken.Slot class) count holds rest c k = slot_seated role seat true class count holds rest c k
+taken_seated role seat (taken.Fd fd slot class) count holds rest c k =
+    plain_do role seat (Calls (call.Close fd)) (taken.Fd fd slot class) count holds
+    (λ told. give_slot slot class count holds rest) refl refl c (λ told.
+    slot_seated role seat slot class count holds rest c k)
 
 closings_seated : (role : Role) (seat : HostSeat) (count : ℕ) (holds : List Hold) (rest : Grammar) →
     Clear holds → Seated role seat rest None seat → Seated role seat (closings count holds rest) None seat
@@ -188,7 +191,7 @@ plain_giving : (role : Role) (seat : HostSeat) (one : Hold) → is_scope one ≡
 plain_giving role seat (hold.Pin row fd) e = (refl, refl)
 plain_giving role seat (hold.HandlePin row fd) e = (refl, refl)
 plain_giving role seat (hold.Fd fd) e = (refl, refl)
-plain_giving role seat hold.Slot e = (refl, refl)
+plain_giving role seat (hold.Slot class) e = (refl, refl)
 plain_giving role seat (hold.Count era number) e = (refl, refl)
 plain_giving role seat hold.Groups e = absurd (cc)
 plain_giving role seat hold.EffectiveGid e = absurd (cc)
@@ -248,7 +251,7 @@ back_ok seat now hold.Umask told k e t f = seat_ok now (call.SetUmask seat.umask
 back_ok seat now (hold.Pin row fd) told k e t f = absurd (cc)
 back_ok seat now (hold.HandlePin row fd) told k e t f = absurd (cc)
 back_ok seat now (hold.Fd fd) told k e t f = absurd (cc)
-back_ok seat now hold.Slot told k e t f = absurd (cc)
+back_ok seat now (hold.Slot class) told k e t f = absurd (cc)
 back_ok seat now (hold.Count era number) told k e t f = absurd (cc)
 
 scope_giving : (role : Role) (seat now : HostSeat) (scope : Hold) → is_scope scope ≡ true →
@@ -262,7 +265,7 @@ scope_giving role seat now hold.Umask e = ((λ told. refl), tt)
 scope_giving role seat now (hold.Pin row fd) e = absurd (cc)
 scope_giving role seat now (hold.HandlePin row fd) e = absurd (cc)
 scope_giving role seat now (hold.Fd fd) e = absurd (cc)
-scope_giving role seat now hold.Slot e = absurd (cc)
+scope_giving role seat now (hold.Slot class) e = absurd (cc)
 scope_giving role seat now (hold.Count era number) e = absurd (cc)
 
 scope_given : (role : Role) (seat now : HostSeat) (scope : Hold) (scopes holds left : List Hold)
@@ -497,8 +500,8 @@ cut_none : (role : Role) (seat now : HostSeat) (brings : Taken) (count : ℕ) (s
 cut_none role seat now taken.Nothing zero scopes holds rest c u b k = k
 cut_none role seat now taken.Nothing (suc count) scopes holds rest c u b k =
     closed_over role seat now (suc count) scopes holds rest c u (inl b) k
-cut_none role seat now taken.Slot count scopes holds rest c u b k =
-    cut_bare role seat now taken.Slot count scopes holds rest c u b k
+cut_none role seat now (taken.Slot class) count scopes holds rest c u b k =
+    cut_bare role seat now (taken.Slot class) count scopes holds rest c u b k
   where
     cut_bare : (role : Role) (seat now : HostSeat) (brings : Taken) (count : ℕ) (scopes holds : List Hold)
         (rest : Grammar) → Covers scopes holds → Unwinds seat scopes now → scopes ≡ [] →
@@ -510,11 +513,11 @@ cut_none role seat now taken.Slot count scopes holds rest c u b k =
         (taken_seated role seat brings count holds (closings count holds rest) clear
         (closings_seated role seat count holds rest clear
         (subst (λ (z : HostSeat). Seated role seat rest None z) same k)))
-cut_none role seat now (taken.Fd fd slot) count scopes holds rest c u none k =
+cut_none role seat now (taken.Fd fd slot class) count scopes holds rest c u none k =
     let clear : Clear holds = subst (λ (z : List Hold). Covers z holds) none c in
     let same : now ≡ seat = subst (λ (z : List Hold). Unwinds seat z now) none u in
-    subst (λ (z : HostSeat). Seated role seat (close_first (taken.Fd fd slot) count holds rest) None z) (sym same)
-    (taken_seated role seat (taken.Fd fd slot) count holds (closings count holds rest) clear
+    subst (λ (z : HostSeat). Seated role seat (close_first (taken.Fd fd slot class) count holds rest) None z) (sym same)
+    (taken_seated role seat (taken.Fd fd slot class) count holds (closings count holds rest) clear
     (closings_seated role seat count holds rest clear
     (subst (λ (z : HostSeat). Seated role seat rest None z) same k)))
 

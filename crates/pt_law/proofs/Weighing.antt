@@ -66,9 +66,9 @@ given_back f deed = 0
 brings_none : (f : ℕ → ℕ → ℕ) (brings : Taken) (holds : List Hold) →
     total (weigh f) (brought brings ++ holds) ≡ total (weigh f) holds
 brings_none f taken.Nothing holds = refl
-brings_none f taken.Slot holds = omega arith
-brings_none f (taken.Fd fd true) holds = omega arith
-brings_none f (taken.Fd fd false) holds = omega arith
+brings_none f (taken.Slot class) holds = omega arith
+brings_none f (taken.Fd fd true class) holds = omega arith
+brings_none f (taken.Fd fd false class) holds = omega arith
 
 pub weighs : (f : ℕ → ℕ → ℕ) (deed : Deed) (told : ActReply) (holds after : List Hold) → Shifts holds deed told after →
     total (weigh f) after + given_back f deed ≡ total (weigh f) holds + gained f deed told
@@ -80,9 +80,9 @@ weighs f (Changes (change.Resolve number)) (Event (event.Resolved row)) holds af
 weighs f (Changes (change.Unpin row)) told holds after s = let k = total_takes (weigh f) s.1 in omega (arith, k)
 weighs f (Changes (change.Claim claim)) (Event (event.Claimed number)) holds after s =
     let k = total_takes (weigh f) s in omega (arith, k)
-weighs f (Changes change.TakeFd) (Event event.Taken) holds after s = let k = total_takes (weigh f) s in
+weighs f (Changes (change.TakeFd class)) (Event event.Taken) holds after s = let k = total_takes (weigh f) s in
     omega (arith, k)
-weighs f (Changes change.GiveFd) told holds after s = let k = total_takes (weigh f) s in omega (arith, k)
+weighs f (Changes (change.GiveFd class)) told holds after s = let k = total_takes (weigh f) s in omega (arith, k)
 weighs f (Changes (change.Insert new)) (Event (event.Inserted given)) holds after s =
     let a = total_takes (weigh f) s.2 in
     let b = total_takes (weigh f) s.3 in

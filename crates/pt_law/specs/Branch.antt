@@ -62,7 +62,7 @@ ReturnsBySort Plain = ⊥
 abbrev pub ReturnsByEvent : Change → Type 0
 ReturnsByEvent (change.Unpin row) = Unit {0}
 ReturnsByEvent (change.UnpinHandle row) = Unit {0}
-ReturnsByEvent change.GiveFd = Unit {0}
+ReturnsByEvent (change.GiveFd class) = Unit {0}
 ReturnsByEvent (change.GiveBack era number) = Unit {0}
 ReturnsByEvent change.TakeClosing = Unit {0}
 ReturnsByEvent asked = ⊥

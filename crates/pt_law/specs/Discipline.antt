@@ -71,24 +71,24 @@ ShiftsChanged (change.Unpin row) holds told after = (kept : Option Fd) × Takes 
 ShiftsChanged (change.Claim claim) holds (Event (event.Claimed given)) after =
     Gains (hold.Count claim.era given.number) holds after
 ShiftsChanged (change.Claim claim) holds told after = after ≡ holds
-ShiftsChanged change.TakeFd holds (Event event.Taken) after = Gains hold.Slot holds after
-ShiftsChanged change.TakeFd holds told after = after ≡ holds
-ShiftsChanged change.GiveFd holds told after = Takes hold.Slot holds after
+ShiftsChanged (change.TakeFd class) holds (Event event.Taken) after = Gains (hold.Slot class) holds after
+ShiftsChanged (change.TakeFd class) holds told after = after ≡ holds
+ShiftsChanged (change.GiveFd class) holds told after = Takes (hold.Slot class) holds after
 ShiftsChanged change.DrawNode holds told after = after ≡ holds
 ShiftsChanged (change.Insert new) holds (Event (event.Inserted given)) after =
-    (mid : List Hold) × (rest : List Hold) × Takes (hold.Fd (fd_of new.form)) holds mid × Takes hold.Slot mid rest
-    × Gains (hold.Count new.era given) rest after
+    (mid : List Hold) × (rest : List Hold) × Takes (hold.Fd (fd_of new.form)) holds mid
+    × Takes (hold.Slot new.class) mid rest × Gains (hold.Count new.era given) rest after
 ShiftsChanged (change.Insert new) holds (Event (event.Found given)) after =
     Gains (hold.Count new.era given.number) holds after
 ShiftsChanged (change.Insert new) holds told after = after ≡ holds
 ShiftsChanged (change.InsertRoot new) holds (Event (event.Inserted given)) after =
-    (mid : List Hold) × Takes (hold.Fd (fd_of new.form)) holds mid × Takes hold.Slot mid after
+    (mid : List Hold) × Takes (hold.Fd (fd_of new.form)) holds mid × Takes (hold.Slot 0) mid after
 ShiftsChanged (change.InsertRoot new) holds told after = after ≡ holds
 ShiftsChanged (change.Forget list) holds told after = after ≡ holds
 ShiftsChanged (change.GiveBack era number) holds told after = Takes (hold.Count era number) holds after
 ShiftsChanged change.DrawHandle holds told after = after ≡ holds
 ShiftsChanged (change.InsertHandle new) holds (Event (event.Inserted given)) after =
-    (mid : List Hold) × Takes (hold.Fd new.fd) holds mid × Takes hold.Slot mid after
+    (mid : List Hold) × Takes (hold.Fd new.fd) holds mid × Takes (hold.Slot new.class) mid after
 ShiftsChanged (change.InsertHandle new) holds told after = after ≡ holds
 ShiftsChanged (change.PinHandle handle number) holds (Event (event.Pinned row fd)) after =
     Gains (hold.HandlePin row fd) holds after
@@ -192,8 +192,8 @@ newly fd notes = record notes { told = told_as fd None ∷ notes.told }
 -- the descriptor that a closing brings
 abbrev pub taken_fd : Taken → Option Fd
 taken_fd taken.Nothing = None
-taken_fd taken.Slot = None
-taken_fd (taken.Fd fd slot) = Some fd
+taken_fd (taken.Slot class) = None
+taken_fd (taken.Fd fd slot class) = Some fd
 
 -- the first opening of a root stays the first
 abbrev pub with_root : Fd → Notes → Notes

@@ -37,11 +37,11 @@ down_to mark (one ∷ holds) = if nat_lt mark (length (one ∷ holds)) then down
 abbrev pub HoldsFd : List Hold → Fd → Type 0
 HoldsFd holds fd = (rest : List Hold) × Takes (hold.Fd fd) holds rest
 
--- the descriptor is held, and it lies on a slot
-pub data LiesOnSlot (fd : Fd) : List Hold → Type 0 where
-  here : {holds : List Hold} → LiesOnSlot fd (hold.Fd fd ∷ hold.Slot ∷ holds)
-  there : {one : Hold} {holds : List Hold} → is_same_fd fd (fd_in one) ≡ false → LiesOnSlot fd holds →
-      LiesOnSlot fd (one ∷ holds)
+-- the descriptor is held, and it lies on a slot of this class
+pub data LiesOnSlot (fd : Fd) (class : ℕ) : List Hold → Type 0 where
+  here : {holds : List Hold} → LiesOnSlot fd class (hold.Fd fd ∷ hold.Slot class ∷ holds)
+  there : {one : Hold} {holds : List Hold} → is_same_fd fd (fd_in one) ≡ false → LiesOnSlot fd class holds →
+      LiesOnSlot fd class (one ∷ holds)
 
 -- A request's own part may make this call, whatever it is then told: it names what it holds, and ends what it holds
 -- itself.
@@ -56,13 +56,13 @@ abbrev pub MayBeMade : Change → List Hold → Type 0
 MayBeMade change.Begin holds = Unit {0}
 MayBeMade (change.Resolve number) holds = Unit {0}
 MayBeMade (change.Claim claim) holds = Unit {0}
-MayBeMade change.TakeFd holds = Unit {0}
+MayBeMade (change.TakeFd class) holds = Unit {0}
 MayBeMade change.DrawNode holds = Unit {0}
-MayBeMade (change.Insert new) holds = LiesOnSlot (fd_of new.form) holds
-MayBeMade (change.InsertRoot new) holds = LiesOnSlot (fd_of new.form) holds
+MayBeMade (change.Insert new) holds = LiesOnSlot (fd_of new.form) new.class holds
+MayBeMade (change.InsertRoot new) holds = LiesOnSlot (fd_of new.form) 0 holds
 MayBeMade (change.Forget list) holds = Unit {0}
 MayBeMade change.DrawHandle holds = Unit {0}
-MayBeMade (change.InsertHandle new) holds = LiesOnSlot new.fd holds
+MayBeMade (change.InsertHandle new) holds = LiesOnSlot new.fd new.class holds
 MayBeMade (change.PinHandle handle number) holds = Unit {0}
 MayBeMade (change.Release handle number) holds = Unit {0}
 MayBeMade change.Clear holds = Unit {0}

@@ -1,5 +1,6 @@
 -- Believed. What holds of every run, after every step and at the end.
-use Rattle.std.specs.Prelude.{◌≡◌, ◌≢◌, ◌<◌, ◌≤◌, ℕ, ◌+◌, true, List, [], ◌∷◌, ◌++◌, length, Option, None, Some}
+use Rattle.std.specs.Prelude.{◌≡◌, ◌≢◌, ◌<◌, ◌≤◌, ℕ, ◌+◌, true, List, [], ◌∷◌, ◌++◌, length, slice_index}
+use Rattle.std.specs.Prelude.{Option, None, Some}
 use Rattle.pt_host.specs.Words.{total, sum_to, Each}
 use Rattle.pt_host.specs.Sorts.{fds_of}
 use Rattle.pt_host.specs.declared.ids.Fd.{Fd}
@@ -7,6 +8,7 @@ use Rattle.pt_host.specs.Tree.{Tree, IsOpenOn, IsWellFormed}
 use Rattle.pt_tables.specs.Tables.{Tables, empty_tables, HasNumber, HasHandle}
 use Rattle.pt_tables.specs.declared.row.Row.{Row}
 use Rattle.pt_tables.specs.declared.row.HandleRow.{HandleRow}
+use Rattle.pt_tables.specs.Happens.{slots_left}
 use Rattle.pt_tables.specs.Rows.{IsRow, NoRow, IsHandleRow, NoHandle}
 use Rattle.pt_tables.specs.declared.event.KeptEvent.TheVariants as change
 use Rattle.pt_tables.specs.declared.reply.EventRefusal.TheVariants.{Overtaken}
@@ -16,15 +18,16 @@ use Rattle.pt_frame.specs.declared.act.ActReply.{ActReply}
 use Rattle.pt_frame.specs.declared.act.ActReply.TheVariants.{Event}
 use Rattle.pt_law.specs.Story.{no_story}
 use Rattle.pt_law.specs.World.{Turn, World, steps_of, no_past, fd_of}
-use Rattle.pt_law.specs.Ledger.{kept_slots, row_slot, handle_has, slots_taken, slots_given, carried, kept_fds}
+use Rattle.pt_law.specs.Ledger.{kept_slots, row_slot, handle_slot, handle_has, slots_taken, slots_given, carried}
+use Rattle.pt_law.specs.Ledger.{kept_fds}
 use Rattle.pt_law.specs.Ledger.{row_has}
 use Rattle.pt_law.specs.Ledger.{fd_taken, fd_given, fds_carried, summed, open_count}
 
 -- Numbers, handles and their objects.
 
 -- a new session on a host that may have descriptors open
-pub record Starts (limit : ℕ) (world : World) : Type 0 where
-  pub tables : world.tables ≡ empty_tables limit
+pub record Starts (limits : List ℕ) (world : World) : Type 0 where
+  pub tables : world.tables ≡ empty_tables limits
   pub well_formed : IsWellFormed world.tree
   pub past : world.past ≡ no_past
   pub story : world.story ≡ no_story
@@ -119,11 +122,20 @@ BeginsFirst (step ∷ other ∷ steps) = IsBeginning step.deed step.reply
 
 -- Slots and descriptors.
 
--- slots left, those of rows and of the closing list, and those that jobs carry, are the limit
-pub record SlotsAddUp (limit bound : ℕ) (turns : List Turn) (tables : Tables) : Type 0 where
-  pub sum : kept_slots tables + sum_to bound (λ job. carried (steps_of job turns)) ≡ limit
+-- each class of a row, of a handle and of a closing with a slot has a limit
+pub record AreLimited (limits : List ℕ) (tables : Tables) : Type 0 where
+  pub rows : Each (λ row. row.class < length limits) tables.rows
+  pub handles : Each (λ row. row.class < length limits) tables.handles
+  pub closing : Each (λ entry. entry.slot ≡ true → entry.class < length limits) tables.closing
+
+-- of each class, slots left, those of rows and of the closing list, and those that jobs carry, are the limit
+pub record SlotsAddUp (limits : List ℕ) (bound : ℕ) (turns : List Turn) (tables : Tables) : Type 0 where
+  pub sum : (class : ℕ) → kept_slots class tables + sum_to bound (λ job. carried class (steps_of job turns))
+      ≡ slice_index limits class
+  pub limited : AreLimited limits tables
   -- no job gave more than it had taken
-  pub taken : (job : ℕ) → job < bound → slots_given (steps_of job turns) ≤ slots_taken (steps_of job turns)
+  pub taken : (class job : ℕ) → job < bound →
+      slots_given class (steps_of job turns) ≤ slots_taken class (steps_of job turns)
 
 -- Where each open descriptor is: it was open at the start, or stands once in the tables, or a job has it, which
 -- opened it or took it for closing, and neither closed it nor handed it to the tables.
@@ -151,18 +163,20 @@ NamesOpen tree None = Unit {0}
 abbrev pub IsHonoured : Option Deed → ActReply → Type 0
 IsHonoured (Some (Changes (change.Unpin row))) (Event (event.Refused why)) = ⊥
 IsHonoured (Some (Changes (change.UnpinHandle row))) (Event (event.Refused why)) = ⊥
-IsHonoured (Some (Changes change.GiveFd)) (Event (event.Refused why)) = ⊥
+IsHonoured (Some (Changes (change.GiveFd class))) (Event (event.Refused why)) = ⊥
 IsHonoured (Some (Changes change.TakeClosing)) (Event (event.Refused why)) = ⊥
 IsHonoured deed told = Unit {0}
 
--- at the end no row of a number or a handle is pinned, nothing is to be closed, nothing is carried, and slots left
--- are the limit less those of the rows
-pub record IsAtRest (limit bound : ℕ) (turns : List Turn) (tables : Tables) : Type 0 where
+-- at the end no row of a number or a handle is pinned, nothing is to be closed, nothing is carried, and the slots
+-- left of each class are its limit less those of the rows
+pub record IsAtRest (limits : List ℕ) (bound : ℕ) (turns : List Turn) (tables : Tables) : Type 0 where
   pub rows : Each (λ row. (row.live ≡ true) × (row.pins ≡ 0)) tables.rows
   pub handles : Each (λ row. (row.live ≡ true) × (row.pins ≡ 0)) tables.handles
   pub closing : tables.closing ≡ []
-  pub carried : (job : ℕ) → job < bound → carried (steps_of job turns) ≡ 0
-  pub slots : tables.slots + total row_slot tables.rows + length tables.handles ≡ limit
+  pub carried : (class job : ℕ) → job < bound → carried class (steps_of job turns) ≡ 0
+  pub slots : (class : ℕ) →
+      slots_left tables class + total (row_slot class) tables.rows + total (handle_slot class) tables.handles
+      ≡ slice_index limits class
 
 -- and open are those that were at the start, those of the rows of numbers and of handles, and no other
 abbrev pub LeavesRows : World → World → Type 0

@@ -6,6 +6,7 @@ use Rattle.pt_host.specs.Tree.{Tree}
 use Rattle.pt_host.specs.declared.reply.HostReply.TheVariants as host
 use Rattle.pt_host.specs.declared.reply.HostValue.TheVariants as value
 use Rattle.pt_tables.specs.Tables.{Tables}
+use Rattle.pt_tables.specs.Happens.{slots_left}
 use Rattle.pt_tables.specs.declared.row.Row.{Row}
 use Rattle.pt_tables.specs.declared.row.HandleRow.{HandleRow}
 use Rattle.pt_tables.specs.declared.row.Closing.{Closing}
@@ -17,10 +18,6 @@ use Rattle.pt_frame.specs.Deed.{Deed, Calls, Changes, Step}
 use Rattle.pt_frame.specs.declared.act.ActReply.{ActReply}
 use Rattle.pt_frame.specs.declared.act.ActReply.TheVariants.{Event, Host}
 use Rattle.pt_law.specs.World.{Turn, fd_of}
-
-abbrev pub one_if : Bool → ℕ
-one_if true = 1
-one_if false = 0
 
 abbrev pub weighed : (Deed → ActReply → ℕ) → Option Deed → ActReply → ℕ
 weighed weight None told = 0
@@ -39,46 +36,54 @@ abbrev pub after_all : (ℕ → Deed → ActReply → ℕ) → ℕ → List Turn
 after_all change had [] = had
 after_all change had (turn ∷ turns) = after_all change (after_one change had turn.step.deed turn.step.reply) turns
 
--- Slots. A row that keeps a descriptor has one, a handle's row has one, and so has an entry of the closing list that
--- says so.
+-- Slots of a class. A row that keeps a descriptor has one of its class, a handle's row has one, and so has an entry of
+-- the closing list that says so.
 
-abbrev pub form_slot : RowForm → ℕ
-form_slot (File fd) = 1
+abbrev pub form_slot : ℕ → ℕ → RowForm → ℕ
+form_slot class its (File fd) = is its class
 
-abbrev pub row_slot : Row → ℕ
-row_slot row = form_slot row.form
+abbrev pub row_slot : ℕ → Row → ℕ
+row_slot class row = form_slot class row.class row.form
 
-abbrev pub closing_slot : Closing → ℕ
-closing_slot closing = one_if closing.slot
+abbrev pub handle_slot : ℕ → HandleRow → ℕ
+handle_slot class row = is row.class class
+
+abbrev pub slot_if : ℕ → Bool → ℕ → ℕ
+slot_if class true its = is its class
+slot_if class false its = 0
+
+abbrev pub closing_slot : ℕ → Closing → ℕ
+closing_slot class closing = slot_if class closing.slot closing.class
 
 -- those that are left, those of the rows of numbers and of handles, live or not, and those of the closing list
-abbrev pub kept_slots : Tables → ℕ
-kept_slots tables =
-    tables.slots + total row_slot tables.rows + length tables.handles + total closing_slot tables.closing
+abbrev pub kept_slots : ℕ → Tables → ℕ
+kept_slots class tables =
+    slots_left tables class + total (row_slot class) tables.rows + total (handle_slot class) tables.handles
+    + total (closing_slot class) tables.closing
 
 -- what a step brings a job
-abbrev pub slot_taken : Deed → ActReply → ℕ
-slot_taken (Changes change.TakeFd) (Event event.Taken) = 1
-slot_taken (Changes change.TakeClosing) (Event (event.Closing first)) = one_if first.slot
-slot_taken deed told = 0
+abbrev pub slot_taken : ℕ → Deed → ActReply → ℕ
+slot_taken class (Changes (change.TakeFd its)) (Event event.Taken) = is its class
+slot_taken class (Changes change.TakeClosing) (Event (event.Closing first)) = slot_if class first.slot first.class
+slot_taken class deed told = 0
 
--- what it gives back or puts into the tables
-abbrev pub slot_given : Deed → ActReply → ℕ
-slot_given (Changes change.GiveFd) (Event event.Given) = 1
-slot_given (Changes (change.Insert new)) (Event (event.Inserted given)) = form_slot new.form
-slot_given (Changes (change.InsertRoot new)) (Event (event.Inserted given)) = form_slot new.form
-slot_given (Changes (change.InsertHandle new)) (Event (event.Inserted given)) = 1
-slot_given deed told = 0
+-- what it gives back or puts into the tables; the root's class is 0
+abbrev pub slot_given : ℕ → Deed → ActReply → ℕ
+slot_given class (Changes (change.GiveFd its)) (Event event.Given) = is its class
+slot_given class (Changes (change.Insert new)) (Event (event.Inserted given)) = form_slot class new.class new.form
+slot_given class (Changes (change.InsertRoot new)) (Event (event.Inserted given)) = form_slot class 0 new.form
+slot_given class (Changes (change.InsertHandle new)) (Event (event.Inserted given)) = is new.class class
+slot_given class deed told = 0
 
-abbrev pub slots_taken : List Step → ℕ
-slots_taken steps = summed slot_taken steps
+abbrev pub slots_taken : ℕ → List Step → ℕ
+slots_taken class steps = summed (slot_taken class) steps
 
-abbrev pub slots_given : List Step → ℕ
-slots_given steps = summed slot_given steps
+abbrev pub slots_given : ℕ → List Step → ℕ
+slots_given class steps = summed (slot_given class) steps
 
 -- what a job carries
-abbrev pub carried : List Step → ℕ
-carried steps = slots_taken steps - slots_given steps
+abbrev pub carried : ℕ → List Step → ℕ
+carried class steps = slots_taken class steps - slots_given class steps
 
 -- Descriptors.
 

@@ -13,14 +13,17 @@ ghost use Rattle.pt_law.specs.World.{World, Turn, Runs};
 /// inserted is open on what its number stood for when it was resolved last, or given: on the object for which it was
 /// given, unless it is the root's.
 pub fn every_finding()
-    ensures opened { (limit bound : ℕ) (turns more : List Turn) (start now : World) (job : ℕ) (opening : Opening) →
-        Starts limit start → AreDisciplined bound (turns ++ more) → Runs start turns now → job < bound →
+    ensures opened { (limits : List ℕ) (bound : ℕ) (turns more : List Turn) (start now : World) (job : ℕ)
+        (opening : Opening) →
+        Starts limits start → AreDisciplined bound (turns ++ more) → Runs start turns now → job < bound →
         ((now.story.found job).latest ≡ Some opening) ⊎ ((now.story.found job).making ≡ Some opening) →
         IsOpening opening }
-    ensures given { (limit bound : ℕ) (turns more : List Turn) (start now : World) (job : ℕ) (giving : Giving) →
-        Starts limit start → AreDisciplined bound (turns ++ more) → Runs start turns now → job < bound →
+    ensures given { (limits : List ℕ) (bound : ℕ) (turns more : List Turn) (start now : World) (job : ℕ)
+        (giving : Giving) →
+        Starts limits start → AreDisciplined bound (turns ++ more) → Runs start turns now → job < bound →
         (now.story.found job).given ≡ Some giving → IsGiven now giving }
-    ensures handled { (limit bound : ℕ) (turns more : List Turn) (start now : World) (job : ℕ) (handling : Handling) →
-        Starts limit start → AreDisciplined bound (turns ++ more) → Runs start turns now → job < bound →
+    ensures handled { (limits : List ℕ) (bound : ℕ) (turns more : List Turn) (start now : World) (job : ℕ)
+        (handling : Handling) →
+        Starts limits start → AreDisciplined bound (turns ++ more) → Runs start turns now → job < bound →
         (now.story.found job).handled ≡ Some handling → IsHandled now handling }
 {}

@@ -12,12 +12,12 @@ ghost use Rattle.pt_law.specs.World.{Turn, TablesRun, steps_of};
 /// number's count is its outstanding entries less what was asked of them, and each count that a job gave back was
 /// taken, unless it was told that it was overtaken.
 pub fn polite_guests()
-    ensures counts { (limit bound : ℕ) (ends : ℕ → Finish) (turns : List Turn) (last : Tables) →
+    ensures counts { (limits : List ℕ) (bound : ℕ) (ends : ℕ → Finish) (turns : List Turn) (last : Tables) →
         Each (λ (turn : Turn). turn.job < bound) turns →
         ((j : ℕ) → j < bound → ComesToEnd idle (steps_of j turns) (ends j)) → IsPolite bound ends turns →
-        TablesRun (empty_tables limit) turns last → CountsOutstanding bound ends turns last }
-    ensures gives_back { (limit bound : ℕ) (ends : ℕ → Finish) (turns : List Turn) (last : Tables) →
+        TablesRun (empty_tables limits) turns last → CountsOutstanding bound ends turns last }
+    ensures gives_back { (limits : List ℕ) (bound : ℕ) (ends : ℕ → Finish) (turns : List Turn) (last : Tables) →
         Each (λ (turn : Turn). turn.job < bound) turns →
         ((j : ℕ) → j < bound → ComesToEnd idle (steps_of j turns) (ends j)) → IsPolite bound ends turns →
-        TablesRun (empty_tables limit) turns last → TakesOneEach turns }
+        TablesRun (empty_tables limits) turns last → TakesOneEach turns }
 {}

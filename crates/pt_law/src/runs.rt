@@ -32,43 +32,47 @@ use pt_host::Host;
 pub fn every_run()
     ensures cut { (turns more : List Turn) (start end : Tables) → TablesRun start (turns ++ more) end →
         ((now : Tables) × TablesRun start turns now × TablesRun now more end) }
-    ensures agree { (limit : ℕ) (turns : List Turn) (now : Tables) → TablesRun (empty_tables limit) turns now →
+    ensures agree { (limits : List ℕ) (turns : List Turn) (now : Tables) → TablesRun (empty_tables limits) turns now →
         Agree now }
     ensures era { (turns : List Turn) (start now : Tables) → TablesRun start turns now → start.era ≤ now.era }
-    ensures counts { (limit : ℕ) (turns : List Turn) (now : Tables) (number : ℕ) →
-        TablesRun (empty_tables limit) turns now → IsCounted now number (given number turns) }
-    ensures standing { (limit : ℕ) (turns : List Turn) (now : Tables) (handle : ℕ) →
-        TablesRun (empty_tables limit) turns now → IsStanding now handle (standing handle turns) }
+    ensures counts { (limits : List ℕ) (turns : List Turn) (now : Tables) (number : ℕ) →
+        TablesRun (empty_tables limits) turns now → IsCounted now number (given number turns) }
+    ensures standing { (limits : List ℕ) (turns : List Turn) (now : Tables) (handle : ℕ) →
+        TablesRun (empty_tables limits) turns now → IsStanding now handle (standing handle turns) }
     ensures ended { (turns : List Turn) (start now : Tables) (serial : ℕ) → TablesRun start turns now →
         HasEnded start serial → HasEnded now serial }
-    ensures once { (limit bound : ℕ) (turns more : List Turn) (now : Tables) (number : ℕ) →
-        AreDisciplined bound (turns ++ more) → TablesRun (empty_tables limit) turns now → number ≢ 1 →
+    ensures once { (limits : List ℕ) (bound : ℕ) (turns more : List Turn) (now : Tables) (number : ℕ) →
+        AreDisciplined bound (turns ++ more) → TablesRun (empty_tables limits) turns now → number ≢ 1 →
         inserted number turns ≤ 1 }
-    ensures handles_once { (limit bound : ℕ) (turns more : List Turn) (now : Tables) (handle : ℕ) →
-        AreDisciplined bound (turns ++ more) → TablesRun (empty_tables limit) turns now →
+    ensures handles_once { (limits : List ℕ) (bound : ℕ) (turns more : List Turn) (now : Tables) (handle : ℕ) →
+        AreDisciplined bound (turns ++ more) → TablesRun (empty_tables limits) turns now →
         handle_inserted handle turns ≤ 1 }
-    ensures slots { (limit bound : ℕ) (turns more : List Turn) (now : Tables) →
-        AreDisciplined bound (turns ++ more) → TablesRun (empty_tables limit) turns now →
-        SlotsAddUp limit bound turns now }
-    ensures honoured { (limit bound : ℕ) (turns : List Turn) (turn : Turn) (more : List Turn) (now next : Tables) →
-        AreDisciplined bound (turns ++ turn ∷ more) → TablesRun (empty_tables limit) turns now →
+    ensures slots { (limits : List ℕ) (bound : ℕ) (turns more : List Turn) (now : Tables) →
+        AreDisciplined bound (turns ++ more) → TablesRun (empty_tables limits) turns now →
+        SlotsAddUp limits bound turns now }
+    ensures honoured { (limits : List ℕ) (bound : ℕ) (turns : List Turn) (turn : Turn) (more : List Turn)
+        (now next : Tables) →
+        AreDisciplined bound (turns ++ turn ∷ more) → TablesRun (empty_tables limits) turns now →
         TablesGo now turn.step.deed turn.step.reply next → IsHonoured turn.step.deed turn.step.reply }
-    ensures overtaken { (limit bound : ℕ) (turns : List Turn) (turn : Turn) (more : List Turn) (now next : Tables) →
-        AreDisciplined bound (turns ++ turn ∷ more) → TablesRun (empty_tables limit) turns now →
+    ensures overtaken { (limits : List ℕ) (bound : ℕ) (turns : List Turn) (turn : Turn) (more : List Turn)
+        (now next : Tables) →
+        AreDisciplined bound (turns ++ turn ∷ more) → TablesRun (empty_tables limits) turns now →
         TablesGo now turn.step.deed turn.step.reply next →
         TellsOvertaken turn.step.deed turn.step.reply → IsOvertaken turn.job turns }
-    ensures shut_out { (limit bound : ℕ) (turns : List Turn) (turn : Turn) (more : List Turn) (now next : Tables) →
+    ensures shut_out { (limits : List ℕ) (bound : ℕ) (turns : List Turn) (turn : Turn) (more : List Turn)
+        (now next : Tables) →
         BeginsFirst (steps_of turn.job (turns ++ turn ∷ more)) → AreDisciplined bound (turns ++ turn ∷ more) →
-        TablesRun (empty_tables limit) turns now → TablesGo now turn.step.deed turn.step.reply next →
+        TablesRun (empty_tables limits) turns now → TablesGo now turn.step.deed turn.step.reply next →
         IsOvertaken turn.job turns → TellsGiven turn.step.deed turn.step.reply → ⊥ }
-    ensures agreed { (limit bound : ℕ) (decided : ℕ → Option Negotiated) (turns more : List Turn) (now : Tables) →
+    ensures agreed { (limits : List ℕ) (bound : ℕ) (decided : ℕ → Option Negotiated) (turns more : List Turn)
+        (now : Tables) →
         ((job : ℕ) → job < bound → BeginsFirst (steps_of job (turns ++ more))) →
         ((job : ℕ) → job < bound → Decides (decided job) (steps_of job (turns ++ more))) →
-        AreDisciplined bound (turns ++ more) → TablesRun (empty_tables limit) turns now →
+        AreDisciplined bound (turns ++ more) → TablesRun (empty_tables limits) turns now →
         now.negotiated ≡ agreed_after decided turns }
     ensures disciplined { (bound : ℕ) (turns : List Turn) → AreEnded bound turns → AreDisciplined bound turns }
-    ensures rest { (limit bound : ℕ) (turns : List Turn) (now : Tables) →
-        AreEnded bound turns → TablesRun (empty_tables limit) turns now → IsAtRest limit bound turns now }
+    ensures rest { (limits : List ℕ) (bound : ℕ) (turns : List Turn) (now : Tables) →
+        AreEnded bound turns → TablesRun (empty_tables limits) turns now → IsAtRest limits bound turns now }
 {}
 
 /// What holds of objects and descriptors in every run over a host that tells its tree.
@@ -79,39 +83,43 @@ pub fn every_told_run()
         ((now : World) × Runs start turns now × Runs now more end) }
     ensures told { (job : ℕ) (turns : List Turn) (start end : World) → Runs start turns end →
         AllMayBeTold (steps_of job turns) }
-    ensures distinct { (limit bound : ℕ) (turns more : List Turn) (start now : World) →
-        Starts limit start → AreDisciplined bound (turns ++ more) → Runs start turns now → AreDistinct now }
-    ensures objects { (limit bound : ℕ) (turns more : List Turn) (start now : World) (row : Row) →
-        Starts limit start → AreDisciplined bound (turns ++ more) → Runs start turns now → IsRow now.tables row →
+    ensures distinct { (limits : List ℕ) (bound : ℕ) (turns more : List Turn) (start now : World) →
+        Starts limits start → AreDisciplined bound (turns ++ more) → Runs start turns now → AreDistinct now }
+    ensures objects { (limits : List ℕ) (bound : ℕ) (turns more : List Turn) (start now : World) (row : Row) →
+        Starts limits start → AreDisciplined bound (turns ++ more) → Runs start turns now → IsRow now.tables row →
         HasObject now row }
-    ensures handles { (limit bound : ℕ) (turns more : List Turn) (start now : World) (row : HandleRow) →
-        Starts limit start → AreDisciplined bound (turns ++ more) → Runs start turns now →
+    ensures handles { (limits : List ℕ) (bound : ℕ) (turns more : List Turn) (start now : World) (row : HandleRow) →
+        Starts limits start → AreDisciplined bound (turns ++ more) → Runs start turns now →
         IsHandleRow now.tables row → IsOpenAsResolved now row }
-    ensures reopened { (limit bound : ℕ) (turns more : List Turn) (start now : World) → Starts limit start →
+    ensures reopened { (limits : List ℕ) (bound : ℕ) (turns more : List Turn) (start now : World) →
+        Starts limits start →
         AreDisciplined bound (turns ++ more) → Runs start turns now → ReopensResolved turns now }
-    ensures origins { (limit bound : ℕ) (turns more : List Turn) (start now : World) →
-        Starts limit start → AreDisciplined bound (turns ++ more) → Runs start turns now → ComeFromNames now }
-    ensures descriptors { (limit bound : ℕ) (turns more : List Turn) (start now : World) →
-        Starts limit start → AreDisciplined bound (turns ++ more) → Runs start turns now →
+    ensures origins { (limits : List ℕ) (bound : ℕ) (turns more : List Turn) (start now : World) →
+        Starts limits start → AreDisciplined bound (turns ++ more) → Runs start turns now → ComeFromNames now }
+    ensures descriptors { (limits : List ℕ) (bound : ℕ) (turns more : List Turn) (start now : World) →
+        Starts limits start → AreDisciplined bound (turns ++ more) → Runs start turns now →
         AreKept start bound turns now }
-    ensures named { (limit bound : ℕ) (turns : List Turn) (turn : Turn) (more : List Turn) (start now : World) →
-        Starts limit start → AreDisciplined bound (turns ++ turn ∷ more) → Runs start turns now →
+    ensures named { (limits : List ℕ) (bound : ℕ) (turns : List Turn) (turn : Turn) (more : List Turn)
+        (start now : World) →
+        Starts limits start → AreDisciplined bound (turns ++ turn ∷ more) → Runs start turns now →
         NamesOpen now.tree turn.step.deed }
-    ensures rest { (limit bound : ℕ) (turns : List Turn) (start end : World) →
-        Starts limit start → AreEnded bound turns → Runs start turns end → LeavesRows start end }
+    ensures rest { (limits : List ℕ) (bound : ℕ) (turns : List Turn) (start end : World) →
+        Starts limits start → AreEnded bound turns → Runs start turns end → LeavesRows start end }
 {}
 
 /// A descriptor that a job has, which it opened or took for closing, stays open on what it is open on while the job
 /// neither closes it nor hands it to the tables, whatever other jobs do. So where it gets a handle for a number, that
 /// is the object for which the job had resolved the number, or was given it.
 pub fn carried_descriptor()
-    ensures stays { (limit bound : ℕ) (turns between more : List Turn) (start was now : World) (job : ℕ) (fd : Fd)
-        (object : ℕ) → Starts limit start → AreDisciplined bound (turns ++ (between ++ more)) → job < bound →
+    ensures stays { (limits : List ℕ) (bound : ℕ) (turns between more : List Turn) (start was now : World) (job : ℕ)
+        (fd : Fd)
+        (object : ℕ) → Starts limits start → AreDisciplined bound (turns ++ (between ++ more)) → job < bound →
         Runs start turns was → Runs was between now → 0 < fds_carried fd.0 (steps_of job turns) →
         summed (fd_given fd.0) (steps_of job between) ≡ 0 → IsOpenOn was.tree fd object →
         IsOpenOn now.tree fd object }
-    ensures handled { (limit bound : ℕ) (turns between more : List Turn) (start was now : World) (job object : ℕ)
-        (new : NewHandle) (told : ActReply) → Starts limit start →
+    ensures handled { (limits : List ℕ) (bound : ℕ) (turns between more : List Turn) (start was now : World)
+        (job object : ℕ)
+        (new : NewHandle) (told : ActReply) → Starts limits start →
         AreDisciplined bound
         (turns ++ (between ++ turn_by job (made (Changes (change.InsertHandle new)) told) ∷ more)) →
         job < bound → Runs start turns was → Runs was between now → 0 < fds_carried new.fd.0 (steps_of job turns) →

@@ -21,9 +21,9 @@ pub fn one_number()
     ensures stays { (turns : List Turn) (start now : World) (number object : ℕ) →
         StaysLive start turns number → Runs start turns now → ObjectOf start number object →
         ObjectOf now number object }
-    ensures one { (limit bound : ℕ) (turns between more : List Turn) (start first second : World)
+    ensures one { (limits : List ℕ) (bound : ℕ) (turns between more : List Turn) (start first second : World)
         (number other object : ℕ) →
-        Starts limit start → AreDisciplined bound ((turns ++ between) ++ more) → Runs start turns first →
+        Starts limits start → AreDisciplined bound ((turns ++ between) ++ more) → Runs start turns first →
         Runs first between second →
         StaysLive first between number → ObjectOf first number object → IsLive second.tables other →
         ObjectOf second other object → other ≡ number }
@@ -32,8 +32,8 @@ pub fn one_number()
 /// Two lookups of one object, in whatever order their steps come, give one number, where the number that was given
 /// first lives until the other is given.
 pub fn two_lookups()
-    ensures { (limit bound : ℕ) (turns between more : List Turn) (start first second : World)
-        (job number another object : ℕ) → Starts limit start → AreDisciplined bound ((turns ++ between) ++ more) →
+    ensures { (limits : List ℕ) (bound : ℕ) (turns between more : List Turn) (start first second : World)
+        (job number another object : ℕ) → Starts limits start → AreDisciplined bound ((turns ++ between) ++ more) →
         Runs start turns first → Runs first between second → StaysLive first between number →
         WasGiven (turns ++ between) job another → ObjectOf first number object → ObjectOf second another object →
         another ≡ number }
@@ -48,9 +48,9 @@ pub fn forgotten_number()
         NoRow after (HasNumber number) }
     ensures handles { (before after : Tables) (list : List (ℕ × ℕ)) (closings : ℕ) →
         Happens before (change.Forget list) (event.Done closings) after → after.handles ≡ before.handles }
-    ensures never_again { (limit bound : ℕ) (turns later more : List Turn) (was now : Tables) (number : ℕ) →
+    ensures never_again { (limits : List ℕ) (bound : ℕ) (turns later more : List Turn) (was now : Tables) (number : ℕ) →
         number ≢ 1 →
-        AreDisciplined bound ((turns ++ later) ++ more) → TablesRun (empty_tables limit) turns was →
+        AreDisciplined bound ((turns ++ later) ++ more) → TablesRun (empty_tables limits) turns was →
         TablesRun was later now →
         0 < inserted number turns → NoRow was (HasNumber number) →
         NoRow now (HasNumber number) × (inserted number later ≡ 0) }

@@ -156,7 +156,7 @@ rooted : (j : ℕ) (w on : World) (new : NewRoot) (given : ℕ) →
     Makes j w (Changes (change.InsertRoot new)) (Event (event.Inserted given)) on → IsRooted w on new.negotiated
 rooted j w on new given m =
     let h = cases w.tables on.tables (change.InsertRoot new) (event.Inserted given) m.2.made.0 in
-    let k = said_keeps new.negotiated (with_row w.tables (new_row w.tables 1 new.form new.ids new.mode 2)) in
+    let k = said_keeps new.negotiated (with_row w.tables (new_row w.tables 1 new.form new.ids new.mode 0 2)) in
     let a = ap (λ z. z.next_number) h.4 ∙ k.0 in let b = ap (λ z. z.next_handle) h.4 ∙ k.1 in
     record {
       tree = ap bare_tree m.2.made.1;
@@ -187,7 +187,7 @@ own_root {G} j plan session said next w last w' n o out goes =
     own_step j (Calls (call.Stat fd)) stat_in (takes fd) a last w' n tt (λ told k had. refl) oa
     (λ errno e x. out errno e (same_on w a w' xa x)) (λ told b xb ob.
     let xab = same_on w a b xa xb in
-    own_step j (Changes change.TakeFd) taken_in (λ done. inserts fd told) b last w' n tt (λ told k had. refl) ob
+    own_step j (Changes (change.TakeFd 0)) taken_in (λ done. inserts fd told) b last w' n tt (λ told k had. refl) ob
     (λ errno e x. out errno e (same_on w b w' xab x)) (λ done d xd od.
     let x = same_on w b d xab xd in
     own_ask j (change_is fd told) inserted_in (λ done. next) d last w' n (refuses fd told) od

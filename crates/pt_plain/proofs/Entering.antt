@@ -319,7 +319,7 @@ returns_past j w on (Some (Changes asked)) told r g = by_event asked told r g
         Goes w (turn_by j (record { deed = Some (Changes asked); reply = told })) on → on.past ≡ w.past
     by_event (change.Unpin row) told r g = g.past
     by_event (change.UnpinHandle row) told r g = g.past
-    by_event change.GiveFd told r g = g.past
+    by_event (change.GiveFd class) told r g = g.past
     by_event (change.GiveBack era number) told r g = g.past
     by_event change.TakeClosing told r g = g.past
     by_event asked told r g = absurd r

@@ -187,7 +187,7 @@ walk_insert_handle {G} j session handle number object fd next w last w' n noted 
           agreed = ap (λ z. z.negotiated) h.4;
         })) k
       where
-        shown : mid.tables ≡ with_handle w.tables (new_handle w.tables handle number fd) → (x : ℕ) →
+        shown : mid.tables ≡ with_handle w.tables (new_handle w.tables handle number fd 0) → (x : ℕ) →
             handle_at mid x ≡ set_at handle (handled_as number object) (handle_at w) x
         shown e x =
             let objects = set_at w.tables.next_row (w.past.resolved j number) w.past.objects in

@@ -255,7 +255,7 @@ module _ {D : Deed → Type 0} {state : PlainTree} {Q : Answer → Type 0} (p : 
 
   pub passes_take : {next : RequestTree} → Passes D state Q next → Passes D state Q (take_fd next)
   passes_take {next} t =
-      record { by = (p.mild (Changes change.TakeFd) tt, passes_on taken_in (λ done. next) (λ done. t)) }
+      record { by = (p.mild (Changes (change.TakeFd 0)) tt, passes_on taken_in (λ done. next) (λ done. t)) }
 
   -- what was opened gets a handle
   pub passes_handled : (session : BegunSession) (number : ℕ) (fd : Fd) (next : ℕ → RequestTree) →

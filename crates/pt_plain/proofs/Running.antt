@@ -39,10 +39,10 @@ use Rattle.pt_plain.proofs.Uncalled.{starts_elsewhere}
 use Rattle.pt_plain.proofs.Showing.{found, handled, number_at, numbered, Shows}
 
 -- what is known where a run has come to
-called_law : (limit bound : ℕ) (turns more : List Turn) (start now : World) → Starts limit start →
+called_law : (limits : List ℕ) (bound : ℕ) (turns more : List Turn) (start now : World) → Starts limits start →
     AreDisciplined bound (turns ++ more) → Runs start turns now → Law now
-called_law limit bound turns more start now s a r =
-    let v = reach limit bound turns more start now s a r in
+called_law limits bound turns more start now s a r =
+    let v = reach limits bound turns more start now s a r in
     let i = v.1 in
     let t = subst (λ t. TablesRun t turns now.tables) s.tables (tables_run turns start now r) in
     record {
@@ -50,52 +50,53 @@ called_law limit bound turns more start now s a r =
       well = λ row at. i.well;
       shown = i.right.shown;
       handled = i.right.handled;
-      distinct = distinct_law limit bound turns more start now s a r;
+      distinct = distinct_law limits bound turns more start now s a r;
       drawn = λ n l. (let f = i.tabled.numbers.fresh n l in let z : inserted n turns ≡ 0 = omega (arith, f) in
           none_other n now.tables.rows
-          (stays_gone n turns (empty_tables limit) now.tables (empty_agree limit) refl t z));
+          (stays_gone n turns (empty_tables limits) now.tables (empty_agree limits) refl t z));
     }
 
 -- where no call was made there is no row
-uncalled_law : (limit bound : ℕ) (turns more : List Turn) (start now : World) → IsNew limit start →
+uncalled_law : (limits : List ℕ) (bound : ℕ) (turns more : List Turn) (start now : World) → IsNew limits start →
     AreUncalled turns → AreDisciplined bound (turns ++ more) → Runs start turns now → Law now
-uncalled_law limit bound turns more start now n u a r =
-    let x = elsewhere limit bound turns more start now n.tables u r in
-    let l = called_law limit bound turns more (in_no_tree start.tables no_past no_story) x.0
-    (starts_elsewhere limit bound turns more start now n.tables u r) a x.3 in
-    let none : (row : Row) → IsRow now.tables row → ⊥ = no_rows limit bound turns more start now n.tables u r a in
+uncalled_law limits bound turns more start now n u a r =
+    let x = elsewhere limits bound turns more start now n.tables u r in
+    let l = called_law limits bound turns more (in_no_tree start.tables no_past no_story) x.0
+    (starts_elsewhere limits bound turns more start now n.tables u r) a x.3 in
+    let none : (row : Row) → IsRow now.tables row → ⊥ = no_rows limits bound turns more start now n.tables u r a in
     record {
       agree = subst Agree x.1 l.agree;
       well = λ row at. absurd (none row at);
       shown = each_from_among (RowOpen now.tree now.past) now.tables.rows (λ row at. absurd (none row at));
       handled = each_from_among (HandleOpen now.tree now.past) now.tables.handles
-          (λ row at. absurd (no_handles limit bound turns more start now n.tables u r a row at));
+          (λ row at. absurd (no_handles limits bound turns more start now n.tables u r a row at));
       distinct = λ number other live also apart. absurd (none live.0 live.1);
       drawn = λ n l'. ap (live_count n) (sym x.1)
           ∙ l.drawn n (let e = ap (λ (t : Tables). t.next_number) x.1 in omega (arith, e, l'));
     }
 
-pub law_at : (limit bound : ℕ) (turns more : List Turn) (start now : World) → IsNew limit start →
+pub law_at : (limits : List ℕ) (bound : ℕ) (turns more : List Turn) (start now : World) → IsNew limits start →
     AreDisciplined bound (turns ++ more) → Runs start turns now → Law now
-law_at limit bound turns more start now n a r = elim (formed turns start now r) [
-  | inl u ↦ uncalled_law limit bound turns more start now n u a r
-  | inr well ↦ called_law limit bound turns more start now
+law_at limits bound turns more start now n a r = elim (formed turns start now r) [
+  | inl u ↦ uncalled_law limits bound turns more start now n u a r
+  | inr well ↦ called_law limits bound turns more start now
       (record { tables = n.tables; well_formed = well; past = n.past; story = n.story }) a r
 ]
 
 -- the steps of a job, with what is known of each world between them
-walks_at : (limit bound j : ℕ) (front : List Turn) (steps : List Step) (more : List Turn) (start w w' : World) →
-    IsNew limit start → AreDisciplined bound (front ++ (map (turn_by j) steps ++ more)) → Runs start front w →
+walks_at : (limits : List ℕ) (bound j : ℕ) (front : List Turn) (steps : List Step) (more : List Turn)
+    (start w w' : World) →
+    IsNew limits start → AreDisciplined bound (front ++ (map (turn_by j) steps ++ more)) → Runs start front w →
     Each (λ (s : Step). LacksMemory s.reply → ⊥) steps → Runs w (map (turn_by j) steps) w' → Walks j w steps w'
-walks_at limit bound j front [] more start w w' s a r m k = (law_at limit bound front more start w s a r, k)
-walks_at limit bound j front (step ∷ steps) more start w w' s a r m k =
+walks_at limits bound j front [] more start w w' s a r m k = (law_at limits bound front more start w s a r, k)
+walks_at limits bound j front (step ∷ steps) more start w w' s a r m k =
     let a' = subst (AreDisciplined bound) (sym (append_assoc front (turn_by j step ∷ [])
     (map (turn_by j) steps ++ more))) a in (
-      law_at limit bound front (turn_by j step ∷ (map (turn_by j) steps ++ more)) start w s a r,
+      law_at limits bound front (turn_by j step ∷ (map (turn_by j) steps ++ more)) start w s a r,
       m.0,
       k.0,
       k.1,
-      walks_at limit bound j (front ++ turn_by j step ∷ []) steps more start k.0 w' s a'
+      walks_at limits bound j (front ++ turn_by j step ∷ []) steps more start k.0 w' s a'
           (runs_append front (turn_by j step ∷ []) start w k.0 r (k.0, k.1, refl)) m.1 k.2,
     )
 
@@ -124,28 +125,29 @@ abbrev pub told_by : List PlainJob → List Answer
 told_by jobs = map (λ (job : PlainJob). job.last) jobs
 
 -- one after another
-all_served : (plan : Plan) (limit bound j : ℕ) (front : List Turn) (jobs : List PlainJob) (start w end : World)
-    (state : PlainTree) → IsNew limit start → AreDisciplined bound (front ++ turns_from j jobs) → Runs start front w →
+all_served : (plan : Plan) (limits : List ℕ) (bound j : ℕ) (front : List Turn) (jobs : List PlainJob)
+    (start w end : World)
+    (state : PlainTree) → IsNew limits start → AreDisciplined bound (front ++ turns_from j jobs) → Runs start front w →
     Each (IsAnswered plan) jobs → Shows w state →
     Runs w (turns_from j jobs) end → (after : PlainTree) × ServesAll plan (asked_by jobs) (told_by jobs) state after × Shows end after
-all_served plan limit bound j front [] start w end state s a r e sh k =
+all_served plan limits bound j front [] start w end state s a r e sh k =
     (state, refl, subst (λ z. Shows z state) (sym k) sh)
-all_served plan limit bound j front (job ∷ jobs) start w end state s a r e sh k =
+all_served plan limits bound j front (job ∷ jobs) start w end state s a r e sh k =
     let own = map (turn_by j) job.steps in
     let rest = turns_from (suc j) jobs in
     let cut = runs_split own rest w end k in
-    let walks = walks_at limit bound j front job.steps rest start w cut.0 s a r e.0.memory cut.1 in
+    let walks = walks_at limits bound j front job.steps rest start w cut.0 s a r e.0.memory cut.1 in
     let a' = subst (AreDisciplined bound) (sym (append_assoc front own rest)) a in
     let r' = runs_append front own start w cut.0 r cut.1 in
     let one = job_served plan j job w cut.0 state e.0 sh
-    (law_at limit bound front (own ++ rest) start w s a r) walks
-    (law_at limit bound (front ++ own) rest start cut.0 s a' r') in
-    let more = all_served plan limit bound (suc j) (front ++ own) jobs start cut.0 end one.0 s a' r' e.1 one.2 cut.2 in
+    (law_at limits bound front (own ++ rest) start w s a r) walks
+    (law_at limits bound (front ++ own) rest start cut.0 s a' r') in
+    let more = all_served plan limits bound (suc j) (front ++ own) jobs start cut.0 end one.0 s a' r' e.1 one.2 cut.2 in
     (more.0, (one.0, one.1, more.1), more.2)
 
-pub start_shows : (limit : ℕ) (start : World) → IsNew limit start → Shows start (plain_start start.tree)
-start_shows limit start s =
-    let same : record start { tables = empty_tables limit; past = no_past } ≡ start =
+pub start_shows : (limits : List ℕ) (start : World) → IsNew limits start → Shows start (plain_start start.tree)
+start_shows limits start s =
+    let same : record start { tables = empty_tables limits; past = no_past } ≡ start =
     λ i. record start { tables = sym s.tables i; past = sym s.past i } in
     subst (λ (z : World). Shows z (plain_start start.tree)) same (record {
       tree = refl;
@@ -239,12 +241,13 @@ ends_as w state l s = record {
 }
 
 -- The jobs' answers and the end are a run of the plain file system over the jobs in order.
-pub plain_run : (plan : Plan) (limit bound : ℕ) (jobs : List PlainJob) (start end : World) → IsNew limit start →
+pub plain_run : (plan : Plan) (limits : List ℕ) (bound : ℕ) (jobs : List PlainJob) (start end : World) →
+    IsNew limits start →
     AreDisciplined bound (turns_from 0 jobs) →
     Each (IsAnswered plan) jobs → Runs start (turns_from 0 jobs) end →
     (after : PlainTree) × ServesAll plan (asked_by jobs) (told_by jobs) (plain_start start.tree) after × EndsAs end after
-plain_run plan limit bound jobs start end s a e r =
-    let k = all_served plan limit bound 0 [] jobs start start end (plain_start start.tree) s a refl e
-    (start_shows limit start s) r in
+plain_run plan limits bound jobs start end s a e r =
+    let k = all_served plan limits bound 0 [] jobs start start end (plain_start start.tree) s a refl e
+    (start_shows limits start s) r in
     let a' = subst (AreDisciplined bound) (sym (append-nil (turns_from 0 jobs))) a in
-    (k.0, k.1, ends_as end k.0 (law_at limit bound (turns_from 0 jobs) [] start end s a' r) k.2)
+    (k.0, k.1, ends_as end k.0 (law_at limits bound (turns_from 0 jobs) [] start end s a' r) k.2)

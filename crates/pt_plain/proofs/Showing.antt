@@ -174,8 +174,8 @@ still_case objects t t' (change.Unpin serial) (event.Done closings) s h =
 still_case objects t t' (change.Claim claim) (event.Claimed number) s h =
     same_kept objects t t' (ap kept h.1.4.2)
 still_case objects t t' (change.Claim claim) event.Absent s h = same_kept objects t t' (ap kept h.2)
-still_case objects t t' change.TakeFd event.Taken s h = same_kept objects t t' (ap kept h.2)
-still_case objects t t' change.GiveFd event.Given s h = same_kept objects t t' (ap kept h.1)
+still_case objects t t' (change.TakeFd class) event.Taken s h = same_kept objects t t' (ap kept h.2)
+still_case objects t t' (change.GiveFd class) event.Given s h = same_kept objects t t' (ap kept h.1)
 still_case objects t t' change.DrawNode (event.Drawn number) s h = rw h.2 (record {
   handles = λ x. refl;
   next_number = omega arith;

@@ -149,7 +149,7 @@ returns_call asked told r = tt
 returns_event : (asked : Change) (told : EventReply) → ReturnsByEvent asked → IsStillEvent asked told
 returns_event (change.Unpin row) told r = tt
 returns_event (change.UnpinHandle row) told r = tt
-returns_event change.GiveFd told r = tt
+returns_event (change.GiveFd class) told r = tt
 returns_event (change.GiveBack era number) told r = tt
 returns_event change.TakeClosing told r = tt
 returns_event asked told r = absurd r

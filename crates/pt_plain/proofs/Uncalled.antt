@@ -155,32 +155,36 @@ run_anywhere (turn ∷ turns) start now past story u r =
       ),
     )
 
-module _ (limit bound : ℕ) (turns more : List Turn) (start now : World) (begins : start.tables ≡ empty_tables limit)
+module _ (limits : List ℕ) (bound : ℕ) (turns more : List Turn) (start now : World)
+    (begins : start.tables ≡ empty_tables limits)
     (u : AreUncalled turns) (r : Runs start turns now) where
   pub elsewhere : (end : World) × (end.tables ≡ now.tables) × (end.tree ≡ no_tree)
       × Runs (in_no_tree start.tables no_past no_story) turns end
   elsewhere = run_anywhere turns start now no_past no_story u r
 
-  pub starts_elsewhere : Starts limit (in_no_tree start.tables no_past no_story)
+  pub starts_elsewhere : Starts limits (in_no_tree start.tables no_past no_story)
   starts_elsewhere = record { tables = begins; well_formed = no_tree_formed; past = refl; story = refl }
 
   pub no_rows : AreDisciplined bound (turns ++ more) → (row : Row) → IsRow now.tables row → ⊥
   no_rows d row at =
-      let has = object_law limit bound turns more (in_no_tree start.tables no_past no_story) elsewhere.0 row starts_elsewhere d
+      let has = object_law limits bound turns more (in_no_tree start.tables no_past no_story)
+      elsewhere.0 row starts_elsewhere d
       elsewhere.3
       (subst (λ (t : Tables). IsRow t row) (sym elsewhere.1) at) in
       none_open elsewhere.0.tree _ has.object elsewhere.2 has.open_on
 
   pub no_handles : AreDisciplined bound (turns ++ more) → (row : HandleRow) → IsHandleRow now.tables row → ⊥
   no_handles d row at =
-      let has = handles_law limit bound turns more (in_no_tree start.tables no_past no_story) elsewhere.0 row starts_elsewhere d
+      let has = handles_law limits bound turns more (in_no_tree start.tables no_past no_story)
+      elsewhere.0 row starts_elsewhere d
       elsewhere.3
       (subst (λ (t : Tables). IsHandleRow t row) (sym elsewhere.1) at) in
       none_open elsewhere.0.tree _ has.0 elsewhere.2 has.2
 
   pub keeps_none : AreDisciplined bound (turns ++ more) → AreKept start bound turns now
   keeps_none d =
-      let kept = kept_law limit bound turns more (in_no_tree start.tables no_past no_story) elsewhere.0 starts_elsewhere d
+      let kept = kept_law limits bound turns more (in_no_tree start.tables no_past no_story)
+      elsewhere.0 starts_elsewhere d
       elsewhere.3 in
       record {
         once = λ fd.
@@ -198,11 +202,12 @@ module _ (limit bound : ℕ) (turns more : List Turn) (start now : World) (begin
         taken = kept.taken;
       }
 
-pub leaves_none : (limit bound : ℕ) (turns : List Turn) (start end : World) → start.tables ≡ empty_tables limit →
+pub leaves_none : (limits : List ℕ) (bound : ℕ) (turns : List Turn) (start end : World) →
+    start.tables ≡ empty_tables limits →
     AreUncalled turns → Runs start turns end → AreEnded bound turns → LeavesRows start end
-leaves_none limit bound turns start end begins u r ended fd =
+leaves_none limits bound turns start end begins u r ended fd =
     let there = run_anywhere turns start end no_past no_story u r in
-    let left = leaves_law limit bound turns (in_no_tree start.tables no_past no_story) there.0
+    let left = leaves_law limits bound turns (in_no_tree start.tables no_past no_story) there.0
     (record { tables = begins; well_formed = no_tree_formed; past = refl; story = refl }) ended there.3 fd in
     let none = count_none there.0.tree fd there.2 in
     let nothing = count_none no_tree fd refl in

@@ -463,14 +463,15 @@ pub walk_take_fd : {G : Type 0} (j : ℕ) (next : RequestTree) (w : World) (last
     last ≢ answer.NoMemory → At j (take_fd next) w last w' → (IsRefused w last w' → G) →
     ((on : World) → IsHidden w on → At j next on last w' → G) → G
 walk_take_fd {G} j next w last w' n c out goes =
-    walk_ask j (Changes change.TakeFd) taken_in (λ done. next) w last w' n
-    (λ told e. (mild_still (Changes change.TakeFd) told tt, tt)) c out go
+    walk_ask j (Changes (change.TakeFd 0)) taken_in (λ done. next) w last w' n
+    (λ told e. (mild_still (Changes (change.TakeFd 0)) told tt, tt)) c out go
   where
     go : (told : ActReply) (done : Unit {0}) (mid on : World) → taken_in told ≡ Some done →
-        Makes j w (Changes change.TakeFd) told mid → IdlesBy j (closings_in (Changes change.TakeFd) told) mid on →
+        Makes j w (Changes (change.TakeFd 0)) told mid → IdlesBy j (closings_in (Changes (change.TakeFd 0)) told)
+        mid on →
         At j next on last w' → G
     go (Event event.Taken) done mid on e m i k =
-        goes on (hidden_mild j w mid on (Changes change.TakeFd) _ tt m m.2.made.1 m.2.past i) k
+        goes on (hidden_mild j w mid on (Changes (change.TakeFd 0)) _ tt m m.2.made.1 m.2.past i) k
     go told done mid on e m i k = absurd (cc)
 
 pub refused_from : (w mid : World) (last : Answer) (w' : World) → Quiet w mid → IsRefused mid last w' →

@@ -47,8 +47,8 @@ ServesAll plan (asked ∷ more) (told ∷ answers) state after =
 ServesAll plan asked answers state after = ⊥
 
 -- a new session, whatever the host's tree is
-pub record IsNew (limit : ℕ) (world : World) : Type 0 where
-  pub tables : world.tables ≡ empty_tables limit
+pub record IsNew (limits : List ℕ) (world : World) : Type 0 where
+  pub tables : world.tables ≡ empty_tables limits
   pub past : world.past ≡ no_past
   pub story : world.story ≡ no_story
 

@@ -12,7 +12,8 @@ ghost use Rattle.pt_plain.specs.Whole.{IsAnswered};
 /// Jobs that run whole, one after another, with no want of memory and no lost seat, are served by the plain file
 /// system: their answers are its answers, and at the end it has the tree, the numbers with counts and the handles.
 pub fn whole_jobs_are_plain()
-    ensures { (plan : Plan) (limit bound : ℕ) (jobs : List PlainJob) (start end : World) → IsNew limit start →
+    ensures { (plan : Plan) (limits : List ℕ) (bound : ℕ) (jobs : List PlainJob) (start end : World) →
+        IsNew limits start →
         AreDisciplined bound (turns_from 0 jobs) → Each (IsAnswered plan) jobs → Runs start (turns_from 0 jobs) end →
         (after : PlainTree) × ServesAll plan (map (λ job. job.asked) jobs) (map (λ job. job.last) jobs)
         (plain_start start.tree) after × EndsAs end after }

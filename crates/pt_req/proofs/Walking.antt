@@ -282,7 +282,7 @@ module _
         (if_claimed R next w.refuses (λ given. w.had _ _ (so (Some given.number))) (w.had _ _ (so None)))
 
     pub takes : (next : RequestTree) → Q next → Q (take_fd next)
-    takes next so = w.asks (Changes change.TakeFd) (on taken_in (λ done. next)) refl refl tt
+    takes next so = w.asks (Changes (change.TakeFd 0)) (on taken_in (λ done. next)) refl refl tt
         (if_taken R next w.refuses (w.had _ _ so))
 
     pub draws_node : (next : ℕ → RequestTree) → ((number : ℕ) → Q (next number)) → Q (draw_node next)

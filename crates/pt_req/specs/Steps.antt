@@ -188,7 +188,7 @@ taken_in told = None
 
 -- the newest descriptor is counted among those that are open for the guest
 abbrev pub take_fd : RequestTree → RequestTree
-take_fd next = Asks (Changes change.TakeFd) (on taken_in (λ done. next))
+take_fd next = Asks (Changes (change.TakeFd 0)) (on taken_in (λ done. next))
 
 abbrev pub drawn_in : ActReply → Option ℕ
 drawn_in (Event (event.Drawn number)) = Some number
@@ -209,7 +209,7 @@ numbered_in told = None
 
 abbrev pub new_row_of : ℕ → ℕ → RowForm → Stat → NewRow
 new_row_of era fresh form told =
-    record { era = era; number = fresh; form = form; ids = told.ids; mode = told.mode }
+    record { era = era; number = fresh; form = form; ids = told.ids; mode = told.mode; class = 0 }
 
 -- what was opened is numbered
 abbrev pub insert : BegunSession → ℕ → RowForm → Stat → Part ℕ
@@ -230,7 +230,7 @@ insert_root session form told agreed next =
     Asks (Changes (change.InsertRoot (new_root_of session.era form told agreed))) (on inserted_in (λ done. next))
 
 abbrev pub new_handle_of : ℕ → ℕ → ℕ → Fd → NewHandle
-new_handle_of era handle number fd = record { era = era; handle = handle; number = number; fd = fd }
+new_handle_of era handle number fd = record { era = era; handle = handle; number = number; fd = fd; class = 0 }
 
 -- what was opened gets its handle
 abbrev pub insert_handle : BegunSession → ℕ → ℕ → Fd → RequestTree → RequestTree

@@ -249,7 +249,7 @@ pub fn claim<'a>(
 pub fn take_fd<'a>(told: &'a [Heard], at: &mut usize) -> Asked<'a, ()>
     ensures { (next : RequestTree) → Reads told.now at.old at.new result (take_fd next) (λ done. next) }
 {
-    let reply = ask(told, at, Act::Event(Event::TakeFd))?;
+    let reply = ask(told, at, Act::Event(Event::TakeFd { class: 0 }))?;
     taken_in(reply)
 }
 
@@ -287,6 +287,7 @@ pub fn insert<'a>(
         form,
         ids: stat.ids,
         mode: stat.mode,
+        class: 0,
     };
     let reply = ask(told, at, Act::Event(Event::Insert(new)))?;
     numbered_in(reply)
@@ -332,6 +333,7 @@ pub fn insert_handle<'a>(
         handle,
         number,
         fd,
+        class: 0,
     };
     let reply = ask(told, at, Act::Event(Event::InsertHandle(new)))?;
     inserted_in(reply)

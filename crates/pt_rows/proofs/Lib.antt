@@ -5,3 +5,4 @@ pub mod Indexing
 pub mod Entries
 pub mod Seen
 pub mod Stores
+pub mod Classes

@@ -18,6 +18,10 @@ pub trait Pinned: Drop {
     fn key(&self) -> u64
         ensures { result ≡ keyed.key self.now };
 
+    /// The class that it is counted in.
+    fn class(&self) -> u32
+        ensures { result ≡ keyed.class self.now };
+
     fn pins(&self) -> u64
         ensures { result ≡ keyed.pins self.now };
 

@@ -1,11 +1,11 @@
 //! The rows of one keyed, found by serial and by key.
 ghost use Rattle.std.specs.Prelude.{◌≡◌, ◌<◌, ◌∷◌, [], true, None, Some, MatchOption, OnOk, OnErr, IsSome};
-ghost use Rattle.std.specs.Prelude.{length};
+ghost use Rattle.std.specs.Prelude.{◌≤◌, length};
 ghost use Rattle.std.specs.Ordering.{nat_cmp};
-ghost use Rattle.std.specs.Map.{set_value};
+ghost use Rattle.std.specs.Map.{set_value, values_of};
 ghost use Rattle.std.specs.BTreeMap.{is_at};
 ghost use Rattle.pt_host.specs.Words.{Each, Takes, Replaces};
-ghost use Rattle.pt_rows.specs.Rows.{IsAmong, NoneOf, HasKey, IsPinned};
+ghost use Rattle.pt_rows.specs.Rows.{IsAmong, NoneOf, HasKey, IsPinned, of_class};
 ghost use Rattle.pt_rows.specs.Same.{IsSame, IsNextRow};
 ghost use Rattle.pt_rows.specs.Index.{row_at, by_key, Puts, SameAt, Leaves, IsNextIn};
 
@@ -45,6 +45,13 @@ fn row_of<R: Pinned>(rows: &BTreeMap<u64, R>, serial: u64) -> Option<R>
         None => None,
         Some(row) => Some(row.copy()),
     }
+}
+
+/// How many of the rows are of this class.
+fn class_count<R: Pinned>(rows: &BTreeMap<u64, R>, class: u32) -> usize
+    ensures { result ≡ of_class R.keyed class (values_of rows.now.entries) }
+{
+    rows.values().filter(|row| row.class() == class).count()
 }
 
 /// Puts a row in the place of the one that its serial has.
@@ -109,6 +116,14 @@ impl<R: Pinned> Rows<R> {
         ensures { result ≡ length self.now }
     {
         self.rows.len()
+    }
+
+    /// How many rows are of this class.
+    pub fn of_class(&self, class: u32) -> usize
+        ensures same { result ≡ of_class R.keyed class self.now }
+        ensures bound { result ≤ length self.now }
+    {
+        class_count(&self.rows, class)
     }
 
     /// The row of this serial.

@@ -164,13 +164,13 @@ patterns : (plan : Plan) (jobs : List Job) (trace : List TraceStep) (answers : L
 patterns plan jobs trace answers ends j job told at told_at =
     belongs_by plan job (steps_by j trace) told (ends.answers_each.in_pattern j job told at told_at)
 
-module _ (plan : Plan) (limit : ℕ) (jobs : List Job) (opened : State) (tables : Tables) (trace : List TraceStep)
+module _ (plan : Plan) (limits : List ℕ) (jobs : List Job) (opened : State) (tables : Tables) (trace : List TraceStep)
     (answers : List Answer) (end : State) (tables' : Tables) (seats : List (Option HostSeat))
-    (begins : tables ≡ empty_tables limit)
+    (begins : tables ≡ empty_tables limits)
     (runs : TraceRuns Does trace opened (map job_seat jobs) tables end seats tables')
     (seated : SeatedEach plan jobs trace) (ends : EndsWhole plan jobs [] trace answers)
     (found : FoundMemory trace answers) (filled : AreFilled jobs) where
-  ran : Ran Does plan limit jobs opened tables trace answers end tables'
+  ran : Ran Does plan limits jobs opened tables trace answers end tables'
   ran = record {
     seats = map job_seat jobs;
     seats' = seats;
@@ -183,7 +183,8 @@ module _ (plan : Plan) (limit : ℕ) (jobs : List Job) (opened : State) (tables 
 
   disciplined : AreDisciplined (length jobs) (turns_of trace)
   disciplined = ended_jobs (length jobs) (turns_of trace)
-      (ended_of Does (λ (s : State). s.faults) does_promised plan limit jobs opened tables trace answers end tables' ran)
+      (ended_of Does (λ (s : State). s.faults)
+      does_promised plan limits jobs opened tables trace answers end tables' ran)
 
   may : (j : ℕ) → AllMayBeTold (steps_by j trace)
   may j = subst AllMayBeTold (steps_same j trace)
@@ -222,7 +223,7 @@ module _ (plan : Plan) (limit : ℕ) (jobs : List Job) (opened : State) (tables 
         filled = filled_at jobs filled i job at;
       })))
 
-  in_turn : RunsWhole plain opened (empty_tables limit) end tables'
+  in_turn : RunsWhole plain opened (empty_tables limits) end tables'
   in_turn = subst (λ (t : Tables). RunsWhole plain opened t end tables') begins
       (runs_in_order plain 0 (count_of trace) trace opened (map job_seat jobs) tables end seats tables'
       (ends.order.owners
@@ -241,7 +242,7 @@ module _ (plan : Plan) (limit : ℕ) (jobs : List Job) (opened : State) (tables 
       × EndsWith opened tables trace end tables' after
   served_contents =
       let are = in_job_order plan jobs trace answers ends in
-      let f = filled_run plan limit (length jobs) plain opened end tables'
+      let f = filled_run plan limits (length jobs) plain opened end tables'
       (subst (AreDisciplined (length jobs)) are disciplined) whole in_turn in
       let asked = seats_same 0 (turns_of trace) jobs answers ends.answers_each.one_each in
       let told = told_same 0 (turns_of trace) jobs answers ends.answers_each.one_each in (
@@ -252,7 +253,7 @@ module _ (plan : Plan) (limit : ℕ) (jobs : List Job) (opened : State) (tables 
           end = f.2.world;
           runs = subst (λ (t : Tables). WorldRuns (begins_in (tree_of opened) t) (turns_of trace) f.2.world)
               (sym begins) (subst (λ (turns : List Turn).
-              WorldRuns (begins_in (tree_of opened) (empty_tables limit)) turns f.2.world) (sym are) f.2.runs);
+              WorldRuns (begins_in (tree_of opened) (empty_tables limits)) turns f.2.world) (sym are) f.2.runs);
           same_tree = f.2.same_tree;
           same_tables = f.2.same_tables;
           plain = f.2.plain;
@@ -262,11 +263,11 @@ module _ (plan : Plan) (limit : ℕ) (jobs : List Job) (opened : State) (tables 
       )
 
 -- of a run
-pub run_contents : (plan : Plan) (limit : ℕ) (jobs : List Job) (opened : State) (tables : Tables)
+pub run_contents : (plan : Plan) (limits : List ℕ) (jobs : List Job) (opened : State) (tables : Tables)
     (trace : List TraceStep) (answers : List Answer) (end : State) (seats : List HostSeat) (tables' : Tables) →
-    tables ≡ empty_tables limit → AreFilled jobs →
+    tables ≡ empty_tables limits → AreFilled jobs →
     IsRun Does plan jobs opened (Some (tree_of opened)) tables trace answers end (Some (tree_of end)) seats tables' →
     ServesContents plan jobs opened tables trace answers end tables'
-run_contents plan limit jobs opened tables trace answers end seats tables' begins filled run ends found =
-    served_contents plan limit jobs opened tables trace answers end tables' run.steps.seats begins run.steps.runs
+run_contents plan limits jobs opened tables trace answers end seats tables' begins filled run ends found =
+    served_contents plan limits jobs opened tables trace answers end tables' run.steps.seats begins run.steps.runs
     run.seated ends found filled

@@ -3,6 +3,7 @@ use Rattle.std.proofs.Common.{◌≡◌, ◌+◌, ◌∙◌, ℕ, List, [], ◌�
 use Rattle.std.specs.Prelude.{None, Result, Ok, Err, IfOk, Vec}
 use Rattle.std.specs.declared.alloc.Global.{Global}
 use Rattle.pt_rules.specs.State.{State}
+use Rattle.pt_tables.specs.Happens.{slots_left}
 use Rattle.pt_tables.specs.Tables.{Tables}
 use Rattle.pt_iface.specs.declared.answer.Answer.{Answer}
 use Rattle.pt_fs.specs.Recorded.{Writes}
@@ -32,7 +33,7 @@ pub counted : (count seed : ℕ) (text : List ℕ) (start : State) (jobs : List 
     (lives handles : List (ℕ × ℕ)) (steps : ℕ) → StartsAs generated_tree start → jobs ≡ generated_jobs count seed →
     order ≡ generated_order count seed → IsRunFrom no_settings start jobs order trace answers tables host None →
     AreLive tables lives handles → steps ≡ length trace →
-    counts ≡ counts_of count steps answers lives handles tables.slots → text ≡ count_lines counts →
+    counts ≡ counts_of count steps answers lives handles (slots_left tables 0) → text ≡ count_lines counts →
     IsCountOf count seed text
 counted count seed text start jobs order trace answers tables host counts lives handles steps starts asked turns run
     live made are told = record {
@@ -49,7 +50,7 @@ counted count seed text start jobs order trace answers tables host counts lives 
       handles = handles;
       live = live;
       told = told ∙ ap count_lines are
-          ∙ ap (λ (n : ℕ). count_lines (counts_of count n answers lives handles tables.slots)) made;
+          ∙ ap (λ (n : ℕ). count_lines (counts_of count n answers lives handles (slots_left tables 0))) made;
     }
 
 -- of lines that were made

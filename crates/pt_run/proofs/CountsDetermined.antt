@@ -3,6 +3,7 @@ use Rattle.std.proofs.Common.{◌≡◌, ◌≢◌, ◌∙◌, ℕ, zero, suc, L
 use Rattle.std.proofs.lemmas.Option.{same_Some}
 use Rattle.pt_host.specs.Words.{Each}
 use Rattle.pt_rules.specs.State.{State}
+use Rattle.pt_tables.specs.Happens.{slots_left}
 use Rattle.pt_tables.specs.LiveAfter.{IsLiveAfter, IsHandleAfter}
 use Rattle.pt_tables.specs.Tables.{Tables}
 use Rattle.pt_iface.specs.declared.answer.Answer.{Answer}
@@ -54,5 +55,5 @@ counts_determined jobs seed lines other ran again full full' =
     (handles_one ran.tables agree) None ran.handles again.handles ran.live.1 live.1 in
     ran.told
     ∙ (λ i. count_lines (counts_of jobs (length (one.traces i)) (one.answered i) (lives i) (handles i)
-    (one.left i).slots))
+    (slots_left (one.left i) 0)))
     ∙ sym again.told

@@ -148,7 +148,7 @@ opened_one settings before fs other after after' h k =
     let capability : fs.plan.capability ≡ other.plan.capability =
     h.capability ∙ ap (λ (c : Config). moved_capability c.xattrmap) config ∙ sym k.capability in
     let tables : fs.tables ≡ other.tables =
-    h.tables ∙ ap (λ (c : Config). empty_tables c.guest_fd_limit) config ∙ sym k.tables in
+    h.tables ∙ ap (λ (c : Config). empty_tables (c.guest_fd_limit ∷ [])) config ∙ sym k.tables in
     record {
       made = λ i. record {
         plan = record { config = config i; uid_map = uids i; gid_map = gids i; capability = capability i };
@@ -206,7 +206,7 @@ pub end_agrees : (settings : Settings) (start : State) (jobs : List Job) (schedu
     (trace : List TraceStep) (answers : List Answer) (tables : Tables) (host : State) (lost : Option LostJob) →
     IsRunFrom settings start jobs schedule trace answers tables host lost → Agree tables
 end_agrees settings start jobs schedule trace answers tables host lost run =
-    agree_law run.fs.plan.config.guest_fd_limit (turns_of trace) tables
+    agree_law (run.fs.plan.config.guest_fd_limit ∷ []) (turns_of trace) tables
     (subst (λ (t : Tables).
     TablesRun t (turns_of trace) tables) run.opened.tables
     (hosts_tables Does (turns_of trace) run.opened_host run.fs.tables host tables
@@ -234,7 +234,8 @@ runs_one settings start jobs schedule trace trace' answers answers' tables table
     (sym same.made) opened in
     let agree : Agree run.fs.tables =
     subst Agree (sym run.opened.tables)
-    (agree_law run.fs.plan.config.guest_fd_limit [] (empty_tables run.fs.plan.config.guest_fd_limit) refl) in
+    (agree_law (run.fs.plan.config.guest_fd_limit ∷ []) [] (empty_tables (run.fs.plan.config.guest_fd_limit ∷ []))
+    refl) in
     turns_determined Does (λ (state : State). state.faults) does_promised host_determined run.fs.plan schedule jobs
     run.opened_host run.fs.tables trace trace' answers answers' (loss_of lost) (loss_of lost') host host' run.seats
     run'.seats tables tables' agree here moved

@@ -44,12 +44,12 @@ step_tells job job' act act' reply reply' rest rest' e =
     let behind : List ℕ = codes " =" ++ (act_reply_text reply ++ (10 ∷ rest)) in
     let behind' : List ℕ = codes " =" ++ (act_reply_text reply' ++ (10 ∷ rest')) in
     let jobs = texts_tell.numbers.followed job job' (act_text act ++ behind) (act_text act' ++ behind')
-    (texts_tell.acts.parted act behind refl) (texts_tell.acts.parted act' behind' refl)
+    (texts_tell.acts.parted act behind (refl, refl)) (texts_tell.acts.parted act' behind' (refl, refl))
     (append_cancel_left (codes "step") (number_text job ++ (act_text act ++ behind))
     (number_text job' ++ (act_text act' ++ behind'))
     (sym (step_parts job act reply rest) ∙ e ∙ step_parts job' act' reply' rest')) in
-    let acts = texts_tell.acts.followed act act' behind behind' refl refl jobs.1 in
-    let replies = texts_tell.act_replies.followed reply reply' (10 ∷ rest) (10 ∷ rest') refl refl
+    let acts = texts_tell.acts.followed act act' behind behind' (refl, refl) (refl, refl) jobs.1 in
+    let replies = texts_tell.act_replies.followed reply reply' (10 ∷ rest) (10 ∷ rest') (refl, refl) (refl, refl)
     (append_cancel_left (codes " =") (act_reply_text reply ++ (10 ∷ rest)) (act_reply_text reply' ++ (10 ∷ rest'))
     acts.1) in
     (jobs.0, acts.0, replies.0, append_cancel_left (10 ∷ []) rest rest' replies.1)

@@ -73,7 +73,7 @@ is_asked settings before was made after seat starts same asked =
 -- it was made by a call
 pub made_opened : (settings : Settings) (config : Config) (before : State) (was : HostSeat) (fs : FileSystem)
     (after : State) (seat : HostSeat) → IsConfigured settings config → was ≡ start_seat settings → seat ≡ was →
-    IsPlanned config fs.plan → fs.tables ≡ empty_tables config.guest_fd_limit →
+    IsPlanned config fs.plan → fs.tables ≡ empty_tables (config.guest_fd_limit ∷ []) →
     Made config before was (Ok fs) after seat → IsFsOpened settings before fs after
 made_opened settings config before was fs after seat h starts same planned tables (inl asked) = record {
   call = is_asked settings before was (Ok fs) after seat starts same asked.1;
@@ -82,7 +82,7 @@ made_opened settings config before was fs after seat h starts same planned table
   gid_map = planned.gids ∙ ap (λ (c : Config). c.gid_map) (sym planned.config);
   capability = planned.capability ∙ ap (λ (c : Config). moved_capability c.xattrmap) (sym planned.config);
   mapped = subst AreMapped (sym planned.config) asked.0;
-  tables = tables ∙ ap (λ (c : Config). empty_tables c.guest_fd_limit) (sym planned.config);
+  tables = tables ∙ ap (λ (c : Config). empty_tables (c.guest_fd_limit ∷ [])) (sym planned.config);
 }
 made_opened settings config before was fs after seat h starts same planned tables (inr unasked) = absurd unasked.0
 

@@ -2,6 +2,7 @@
 use Rattle.std.proofs.Common.{◌≡◌, ℕ, List, Option, Some, None, refl, ap, sym, subst, ◌∙◌}
 use Rattle.pt_rules.specs.State.{State}
 use Rattle.pt_tree.specs.Listing.{listing_of}
+use Rattle.pt_tables.specs.Happens.{slots_left}
 use Rattle.pt_tables.specs.Tables.{Tables}
 use Rattle.pt_iface.specs.declared.answer.Answer.{Answer}
 use Rattle.pt_req.specs.declared.plan.Plan.{Plan}
@@ -42,7 +43,7 @@ lost_one plan plan' jobs jobs' schedule schedule' host host' tables tables' trac
 pub alike : ReportsDetermineRuns
 alike bytes bytes' report ran again =
     let same = lines_tell ran.trace again.trace ran.answers again.answers ran.lives again.lives ran.handles
-    again.handles ran.tables.slots again.tables.slots (listing_of ran.host) (listing_of again.host)
+    again.handles (slots_left ran.tables 0) (slots_left again.tables 0) (listing_of ran.host) (listing_of again.host)
     (lost_lines ran.lost) (lost_lines again.lost) (sym ran.text ∙ again.text) in
     let ends = subst (λ (trace : List TraceStep). EndsWholeOrLost ran.run.fs.plan
     ran.begun.jobs ran.begun.order ran.run.opened_host ran.run.fs.tables trace ran.answers
@@ -67,7 +68,7 @@ full : (bytes report : List ℕ) (ran : IsReportOf bytes report) → IsFullRepor
     NoneIsCut ran.begun.jobs ran.answers → IsFull ran
 full bytes report ran printed uncut =
     let same = lines_tell printed.trace ran.trace printed.answers ran.answers printed.lives ran.lives printed.handles
-    ran.handles printed.tables.slots ran.tables.slots (listing_of printed.host) (listing_of ran.host)
+    ran.handles (slots_left printed.tables 0) (slots_left ran.tables 0) (listing_of printed.host) (listing_of ran.host)
     (lost_lines printed.lost) (lost_lines ran.lost) (sym printed.text ∙ ran.text) in (
       subst (λ (answers : List Answer). FoundMemory ran.trace answers) same.answered
           (subst (λ (trace : List TraceStep). FoundMemory trace printed.answers) same.traces printed.memory),

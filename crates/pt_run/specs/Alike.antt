@@ -1,5 +1,6 @@
 -- Believed. The bytes of a report tell the run.
 use Rattle.std.specs.Prelude.{◌≡◌, ℕ, List, Option}
+use Rattle.pt_tables.specs.Happens.{slots_left}
 use Rattle.pt_tables.specs.Tables.{Tables}
 use Rattle.pt_rules.specs.State.{State}
 use Rattle.pt_tree.specs.Listing.{listing_of}
@@ -20,7 +21,7 @@ pub record AreAlike
   pub answers : ran.answers ≡ again.answers
   pub lives : ran.lives ≡ again.lives
   pub handles : ran.handles ≡ again.handles
-  pub slots : ran.tables.slots ≡ again.tables.slots
+  pub slots : slots_left ran.tables 0 ≡ slots_left again.tables 0
   pub listings : listing_of ran.host ≡ listing_of again.host
   pub losses : ran.lost ≡ again.lost
 

@@ -2,6 +2,7 @@
 use Rattle.std.specs.Prelude.{◌≡◌, ℕ, List, None, length}
 use Rattle.pt_rules.specs.State.{State}
 use Rattle.pt_tree.specs.Start.{StartsAs}
+use Rattle.pt_tables.specs.Happens.{slots_left}
 use Rattle.pt_tables.specs.Tables.{Tables}
 use Rattle.pt_iface.specs.declared.answer.Answer.{Answer}
 use Rattle.pt_fs.specs.Determined.{FoundMemory}
@@ -27,7 +28,7 @@ pub record IsCountOf (jobs seed : ℕ) (text : List ℕ) : Type 0 where
   pub lives : List (ℕ × ℕ)
   pub handles : List (ℕ × ℕ)
   pub live : AreLive tables lives handles
-  pub told : text ≡ count_lines (counts_of jobs (length trace) answers lives handles tables.slots)
+  pub told : text ≡ count_lines (counts_of jobs (length trace) answers lives handles (slots_left tables 0))
 
 -- how the program ends that counts a run
 abbrev pub EndsCounted : Status → Type 0

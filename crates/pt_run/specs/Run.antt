@@ -1,5 +1,6 @@
 -- Believed. A run of a script, and its report.
-use Rattle.std.specs.Prelude.{◌≡◌, ◌≢◌, ◌≤◌, ◌⊎◌, ℕ, List, ◌++◌, Option, Some, None, Result, Ok, Err, length, codes}
+use Rattle.std.specs.Prelude.{◌≡◌, ◌≢◌, ◌≤◌, ◌⊎◌, ℕ, List, [], ◌∷◌, ◌++◌, Option, Some, None, Result, Ok, Err, length}
+use Rattle.std.specs.Prelude.{codes}
 use Rattle.pt_host.specs.Errno.{einval}
 use Rattle.pt_host.specs.declared.ids.Errno.{Errno}
 use Rattle.pt_host.specs.declared.reply.HostReply.{HostReply}
@@ -11,6 +12,7 @@ use Rattle.pt_rules.specs.State.{State, tree_of}
 use Rattle.pt_rules.specs.Does.{Does}
 use Rattle.pt_rules.specs.Faults.{failure_of}
 use Rattle.pt_tree.specs.Listing.{listing_of}
+use Rattle.pt_tables.specs.Happens.{slots_left}
 use Rattle.pt_tables.specs.Tables.{Tables, empty_tables}
 use Rattle.pt_iface.specs.declared.answer.Answer.{Answer}
 use Rattle.pt_iface.specs.declared.answer.Refusal.{Refusal}
@@ -50,7 +52,7 @@ pub record IsFsOpened (settings : Settings) (before : State) (fs : FileSystem) (
   pub gid_map : fs.plan.gid_map ≡ fs.plan.config.gid_map
   pub capability : fs.plan.capability ≡ moved_capability fs.plan.config.xattrmap
   pub mapped : AreMapped fs.plan.config
-  pub tables : fs.tables ≡ empty_tables fs.plan.config.guest_fd_limit
+  pub tables : fs.tables ≡ empty_tables (fs.plan.config.guest_fd_limit ∷ [])
 
 -- how the run ended: it lost no seat, or that of this job by this error
 abbrev pub EndsWholeOrLost :
@@ -103,7 +105,7 @@ abbrev pub report_behind :
     Tables → State → Option LostJob → List ℕ
 report_behind lines answers lives handles tables host lost =
     lines ++ answer_lines 0 answers ++ live_lines lives ++ handle_lines handles
-    ++ slots_line tables.slots ++ listing_of host ++ lost_lines lost
+    ++ slots_line (slots_left tables 0) ++ listing_of host ++ lost_lines lost
     ++ codes "end\n"
 
 -- the report of a run: its steps, answers, live numbers and handles, slots and objects, and a seat that was lost

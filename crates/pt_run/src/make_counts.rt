@@ -10,6 +10,7 @@ ghost use Rattle.pt_tree.specs.Start.{StartsAs};
 ghost use Rattle.pt_run.specs.Counted.{IsCountOf};
 ghost use Rattle.pt_run.specs.Counts.{counts_of, count_lines};
 ghost use Rattle.pt_run.specs.Run.{AreLive, IsRunFrom};
+ghost use Rattle.pt_tables.specs.Happens.{slots_left};
 ghost use Rattle.pt_run.specs.Sized.{AreFilled};
 
 use crate::counts::{Counts, StepCount, handles_of, lacking_in, lives_of, refused_in, served_in};
@@ -63,7 +64,8 @@ fn counts_of(
 ) -> Result<Counts, AllocError>
     ensures { IfOk result (λ counts. (lives : List (ℕ × ℕ)) × (handles : List (ℕ × ℕ))
         × AreLive left.now.fs.tables lives handles
-        × (counts ≡ counts_of jobs steps left.now.answers.items lives handles left.now.fs.tables.slots)) }
+        × (counts ≡ counts_of jobs steps left.now.answers.items lives handles
+        (slots_left left.now.fs.tables 0))) }
 {
     let answers = left.answers.as_slice();
     let session = left.fs.session();
@@ -77,7 +79,7 @@ fn counts_of(
         no_memory: lacking_in(answers) as u64,
         live: lives.len() as u64,
         handles: handles.len() as u64,
-        slots: session.slots_left(),
+        slots: session.slots_left(0),
     })
 }
 

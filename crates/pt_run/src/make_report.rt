@@ -17,6 +17,7 @@ ghost use Rattle.pt_run.specs.Run.{
 ghost use Rattle.pt_run.specs.Reported.{IsReported};
 ghost use Rattle.pt_run.specs.Sized.{AreFilled};
 ghost use Rattle.pt_run.specs.declared.status.Status.TheVariants as ended;
+ghost use Rattle.pt_tables.specs.Happens.{slots_left};
 
 use crate::report::{LostJob, StepLines, push_answers, push_lost};
 use crate::status::Status;
@@ -89,12 +90,12 @@ fn open_fs(alloc: Global, settings: Settings, host: &mut TreeHost) -> Result<Pas
 fn push_tables(out: &mut Vec<u8>, fs: &PassthroughFs) -> Result<(), AllocError>
     ensures { OnOk result ((lives : List (ℕ × ℕ)) × (handles : List (ℕ × ℕ)) × AreLive fs.now.tables lives handles
         × (out.new.items ≡ out.old.items ++ live_lines lives ++ handle_lines handles
-        ++ slots_line fs.now.tables.slots)) }
+        ++ slots_line (slots_left fs.now.tables 0))) }
 {
     let session = fs.session();
     push_lives(out, session)?;
     push_handles(out, session)?;
-    push_slots(out, session.slots_left())
+    push_slots(out, session.slots_left(0))
 }
 
 // Appends what the report says of the host.

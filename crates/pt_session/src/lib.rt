@@ -9,7 +9,8 @@ pub use laws::{
     events_have_effects, events_keep_agreement, refusals_change_nothing,
 };
 pub use pt_tables::{
-    Claim, Closing, Event, EventRefusal, EventReply, ForgetPairs, GivenNumber, HandleRow,
+    ByClass, Claim, Closing, Event, EventRefusal, EventReply, ForgetPairs, GivenNumber, HandleRow,
     KeptClaim, KeptEvent, Negotiated, NewHandle, NewRoot, NewRow, Resolved, Row, RowForm,
+    one_limit,
 };
 pub use session::Session;

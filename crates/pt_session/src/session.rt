@@ -1,11 +1,11 @@
-ghost use Rattle.std.specs.Prelude.{◌≡◌, ◌↔◌, IsTrue};
+ghost use Rattle.std.specs.Prelude.{◌≡◌, ◌↔◌, IsTrue, length};
 ghost use Rattle.pt_tables.specs.Change.{change_of};
 ghost use Rattle.pt_tables.specs.Tables.{Agree, empty_tables};
-ghost use Rattle.pt_tables.specs.Happens.{Happens};
+ghost use Rattle.pt_tables.specs.Happens.{Happens, slots_left};
 ghost use Rattle.pt_tables.specs.LiveAfter.{IsLiveAfter, IsHandleAfter};
 ghost use Rattle.pt_tables.specs.Pending.{all_pending, AddsUp};
 
-use pt_tables::{Event, EventReply, SessionTables};
+use pt_tables::{ByClass, Event, EventReply, SessionTables};
 use std::alloc::Global;
 use std::marker::Model;
 
@@ -27,13 +27,13 @@ impl Model for Session {
 }
 
 impl Session {
-    /// A session without rows, with so many descriptor slots. It takes no memory yet.
-    pub fn new(alloc: Global, limit: u64) -> Session
-        ensures tables { result ≡ empty_tables limit }
+    /// A session without rows, with so many descriptor slots of each class. It takes no memory yet.
+    pub fn new(alloc: Global, limits: ByClass) -> Session
+        ensures tables { result ≡ empty_tables limits.items }
         ensures agree { Agree result }
     {
         Session {
-            tables: SessionTables::new(alloc, limit),
+            tables: SessionTables::new(alloc, limits),
         }
     }
 
@@ -45,11 +45,18 @@ impl Session {
         self.tables.event(event)
     }
 
-    /// How many descriptor slots are left.
-    pub fn slots_left(&self) -> u64
-        ensures { result ≡ self.now.slots }
+    /// How many classes have a limit.
+    pub fn classes(&self) -> u32
+        ensures { result ≡ length self.now.limits }
     {
-        self.tables.slots
+        self.tables.classes()
+    }
+
+    /// How many descriptor slots of this class are left: none of one that has no limit.
+    pub fn slots_left(&self, class: u32) -> u64
+        ensures { result ≡ slots_left self.now class }
+    {
+        self.tables.slots_left(class)
     }
 
     /// The least live number above the given one, or the least of all, with its count.
@@ -73,7 +80,7 @@ impl Session {
         self.tables.store.pending() as u64
     }
 
-    /// Whether the slots that are left and those of rows and closing entries add up to the limit.
+    /// Whether, of each class, the slots that are left and those of rows and closing entries add up to the limit.
     pub fn adds_up(&self) -> bool
         ensures { IsTrue result ↔ AddsUp self.now }
     {

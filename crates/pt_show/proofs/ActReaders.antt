@@ -17,9 +17,9 @@ use Rattle.pt_show.specs.Texts.{word, signed_digits}
 use Rattle.pt_show.specs.HostTexts.{call_text, errno_text, host_reply_text}
 use Rattle.pt_show.specs.SessionTexts.{event_text, event_reply_text}
 use Rattle.pt_show.specs.ActTexts.{act_text, act_reply_text}
-use Rattle.pt_show.specs.Laws.{IsParted}
+use Rattle.pt_show.specs.Laws.{IsParted, IsUnclassed}
 use Rattle.pt_show.proofs.Readers.{
-  Reads,
+  ReadsBefore,
   Found,
   nothing,
   mapped,
@@ -61,13 +61,13 @@ read_act text =
     (or_else (mapped (λ (call : KeptHostOp). act.Host call) (read_kinds call_kinds text))
     (read_kinds (no_copy act.NoCopy) text))
 
-act-back : (value : KeptAct) (rest : List ℕ) → IsParted rest → read_act (act_text value ++ rest) ≡ Some (value, rest)
+act-back : (value : KeptAct) (rest : List ℕ) → IsUnclassed rest → read_act (act_text value ++ rest) ≡ Some (value, rest)
 act-back (act.Event event) rest p =
     ap (λ (found : Found KeptEvent). or_else (mapped (λ (e : KeptEvent). act.Event e) found)
     (or_else (mapped (λ (c : KeptHostOp). act.Host c) (read_kinds call_kinds (event_text event ++ rest)))
     (read_kinds (no_copy act.NoCopy) (event_text event ++ rest)))) (event-back event rest p)
 act-back (act.Host call) rest p =
-    let found = call-back call rest p in
+    let found = call-back call rest p.0 in
     let none : read_kinds event_kinds (call_text call ++ rest) ≡ None =
     not_among call_kinds event_kinds (call_text call ++ rest) (call, rest) refl found in
     (λ i. or_else (mapped (λ (e : KeptEvent). act.Event e) (none i))
@@ -75,7 +75,7 @@ act-back (act.Host call) rest p =
     (call_text call ++ rest))))
 act-back act.NoCopy rest p =
     let found : read_kinds (no_copy act.NoCopy) (word (codes "NoCopy") ++ rest) ≡ Some (act.NoCopy, rest) =
-    named (no_copy act.NoCopy) (codes "NoCopy") nothing (λ (none : Unit {0}). act.NoCopy) refl (λ _. refl) tt rest p
+    named (no_copy act.NoCopy) (codes "NoCopy") nothing (λ (none : Unit {0}). act.NoCopy) refl (λ _. refl) tt rest p.0
     in
     let no_event : read_kinds event_kinds (word (codes "NoCopy") ++ rest) ≡ None =
     not_among (no_copy act.NoCopy) event_kinds (word (codes "NoCopy") ++ rest) (act.NoCopy, rest) refl found in
@@ -84,12 +84,12 @@ act-back act.NoCopy rest p =
     (λ i. or_else (mapped (λ (e : KeptEvent). act.Event e) (no_event i))
     (or_else (mapped (λ (c : KeptHostOp). act.Host c) (no_call i)) (found i)))
 
-act-parted : (value : KeptAct) (rest : List ℕ) → IsParted rest → IsParted (act_text value ++ rest)
+act-parted : (value : KeptAct) (rest : List ℕ) → IsUnclassed rest → IsParted (act_text value ++ rest)
 act-parted (act.Event event) rest p = events.parted event rest p
-act-parted (act.Host call) rest p = calls.parted call rest p
+act-parted (act.Host call) rest p = calls.parted call rest p.0
 act-parted act.NoCopy rest p = refl
 
-pub acts : Reads act_text
+pub acts : ReadsBefore IsUnclassed act_text
 acts = record { read = read_act; back = act-back; parted = act-parted }
 
 -- a host's reply is no reply to an event: a refusal by an error number names no refusal of an event
@@ -116,22 +116,22 @@ read_reply text =
     (or_else (mapped (λ (reply : HostReply). told.Host reply) (read_kinds host_reply_kinds text))
     (read_kinds (no_copy told.NoCopy) text))
 
-reply-back : (value : ActReply) (rest : List ℕ) → IsParted rest →
+reply-back : (value : ActReply) (rest : List ℕ) → IsUnclassed rest →
     read_reply (act_reply_text value ++ rest) ≡ Some (value, rest)
 reply-back (told.Event reply) rest p =
     ap (λ (found : Found EventReply). or_else (mapped (λ (e : EventReply). told.Event e) found)
     (or_else (mapped (λ (c : HostReply). told.Host c) (read_kinds host_reply_kinds (event_reply_text reply ++ rest)))
     (read_kinds (no_copy told.NoCopy) (event_reply_text reply ++ rest)))) (event_reply-back reply rest p)
 reply-back (told.Host reply) rest p =
-    let found = host_reply-back reply rest p in
-    let none = no_event_reply reply rest p in
+    let found = host_reply-back reply rest p.0 in
+    let none = no_event_reply reply rest p.0 in
     (λ i. or_else (mapped (λ (e : EventReply). told.Event e) (none i))
     (or_else (mapped (λ (c : HostReply). told.Host c) (found i))
     (read_kinds (no_copy told.NoCopy) (host_reply_text reply ++ rest))))
 reply-back told.NoCopy rest p =
     let found : read_kinds (no_copy told.NoCopy) (word (codes "NoCopy") ++ rest) ≡ Some (told.NoCopy, rest) =
     named (no_copy told.NoCopy) (codes "NoCopy") nothing (λ (none : Unit {0}). told.NoCopy) refl (λ _. refl) tt rest
-    p in
+    p.0 in
     let no_event : read_kinds event_reply_kinds (word (codes "NoCopy") ++ rest) ≡ None =
     not_among (no_copy told.NoCopy) event_reply_kinds (word (codes "NoCopy") ++ rest) (told.NoCopy, rest) refl found
     in
@@ -140,10 +140,10 @@ reply-back told.NoCopy rest p =
     (λ i. or_else (mapped (λ (e : EventReply). told.Event e) (no_event i))
     (or_else (mapped (λ (c : HostReply). told.Host c) (no_host i)) (found i)))
 
-reply-parted : (value : ActReply) (rest : List ℕ) → IsParted rest → IsParted (act_reply_text value ++ rest)
+reply-parted : (value : ActReply) (rest : List ℕ) → IsUnclassed rest → IsParted (act_reply_text value ++ rest)
 reply-parted (told.Event reply) rest p = event_replies.parted reply rest p
-reply-parted (told.Host reply) rest p = host_replies.parted reply rest p
+reply-parted (told.Host reply) rest p = host_replies.parted reply rest p.0
 reply-parted told.NoCopy rest p = refl
 
-pub act_replies : Reads act_reply_text
+pub act_replies : ReadsBefore IsUnclassed act_reply_text
 act_replies = record { read = read_reply; back = reply-back; parted = reply-parted }

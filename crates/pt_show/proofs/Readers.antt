@@ -2,30 +2,34 @@
 use Rattle.std.proofs.Common.{◌≡◌, ℕ, suc, zero, Bool, true, false, cond, ◌&&◌, not, List, [], ◌∷◌, ◌++◌, length}
 use Rattle.std.proofs.Common.{Option, Some, None, refl, ap, sym, ◌∙◌, append_assoc, append-nil, nat_eq}
 use Rattle.pt_show.specs.Texts.{word, number_text, option_text, items_text}
-use Rattle.pt_show.specs.Laws.{is_separator, IsParted, TellsValue}
+use Rattle.pt_show.specs.Laws.{is_separator, IsParted, TellsBefore}
 use Rattle.std.specs.Prelude.{codes}
 
 -- a value that was read, and what is left
 abbrev pub Found : Type 0 → Type 0
 Found A = Option (A × List ℕ)
 
-pub record Reads {A : Type 0} (text : A → List ℕ) : Type 0 where
+pub record ReadsBefore {A : Type 0} (Behind : List ℕ → Type 0) (text : A → List ℕ) : Type 0 where
   pub read : List ℕ → Found A
-  pub back : (value : A) (rest : List ℕ) → IsParted rest → read (text value ++ rest) ≡ Some (value, rest)
-  pub parted : (value : A) (rest : List ℕ) → IsParted rest → IsParted (text value ++ rest)
+  pub back : (value : A) (rest : List ℕ) → Behind rest → read (text value ++ rest) ≡ Some (value, rest)
+  pub parted : (value : A) (rest : List ℕ) → Behind rest → IsParted (text value ++ rest)
+
+abbrev pub Reads : {A : Type 0} → (A → List ℕ) → Type 0
+Reads text = ReadsBefore IsParted text
 
 some_one : {A : Type 0} (one other : A) → Some one ≡ Some other → one ≡ other
 some_one one other e = cc
 
-pub tells : {A : Type 0} (text : A → List ℕ) → Reads text → TellsValue text
-tells {A} text r = record {
+pub tells : {A : Type 0} {Behind : List ℕ → Type 0} (text : A → List ℕ) → ReadsBefore Behind text → Behind [] →
+    TellsBefore Behind text
+tells {A} {Behind} text r none = record {
   alone = λ one other e.
-      (followed one other [] [] tt tt (append-nil (text one) ∙ e ∙ sym (append-nil (text other)))).0;
+      (followed one other [] [] none none (append-nil (text one) ∙ e ∙ sym (append-nil (text other)))).0;
   followed = followed;
   parted = r.parted;
 }
   where
-    followed : (one other : A) (rest rest' : List ℕ) → IsParted rest → IsParted rest' →
+    followed : (one other : A) (rest rest' : List ℕ) → Behind rest → Behind rest' →
         text one ++ rest ≡ text other ++ rest' → (one ≡ other) × (rest ≡ rest')
     followed one other rest rest' p q e =
         let same : (one, rest) ≡ (other, rest') =
@@ -102,9 +106,9 @@ abbrev read_on : {A B : Type 0} → Found A → (List ℕ → Found B) → Found
 read_on None read = None
 read_on (Some found) read = with_first found.0 (read found.1)
 
-pub both : {A B : Type 0} {text : A → List ℕ} {text' : B → List ℕ} → Reads text → Reads text' →
-    Reads (λ (pair : A × B). text pair.0 ++ text' pair.1)
-both {A} {B} {text} {text'} one other = record {
+pub both : {A B : Type 0} {Behind : List ℕ → Type 0} {text : A → List ℕ} {text' : B → List ℕ} → Reads text →
+    ReadsBefore Behind text' → ReadsBefore Behind (λ (pair : A × B). text pair.0 ++ text' pair.1)
+both {A} {B} {Behind} {text} {text'} one other = record {
   read = λ whole. read_on (one.read whole) other.read;
   back = λ pair rest p.
       ap (λ (whole : List ℕ). read_on (one.read whole) other.read) (append_assoc (text pair.0) (text' pair.1) rest)
@@ -121,9 +125,10 @@ abbrev pub mapped : {A B : Type 0} → (A → B) → Found A → Found B
 mapped make None = None
 mapped make (Some found) = Some (make found.0, found.1)
 
-pub along : {A B : Type 0} {text : A → List ℕ} → Reads text → (make : A → B) (parts : B → A) →
-    ((value : B) → make (parts value) ≡ value) → Reads (λ (value : B). text (parts value))
-along {A} {B} {text} one make parts is = record {
+pub along : {A B : Type 0} {Behind : List ℕ → Type 0} {text : A → List ℕ} → ReadsBefore Behind text → (make : A → B)
+    (parts : B → A) → ((value : B) → make (parts value) ≡ value) →
+    ReadsBefore Behind (λ (value : B). text (parts value))
+along {A} {B} {Behind} {text} one make parts is = record {
   read = λ whole. mapped make (one.read whole);
   back = λ value rest p. ap (mapped make) (one.back (parts value) rest p) ∙ (λ i. Some (is value i, rest));
   parted = λ value rest p. one.parted (parts value) rest p;
@@ -134,7 +139,8 @@ pub record Kind (A : Type 0) : Type 0 where
   pub name : List ℕ
   pub read : List ℕ → Found A
 
-abbrev pub kind : {A B : Type 0} {text : A → List ℕ} → List ℕ → Reads text → (A → B) → Kind B
+abbrev pub kind : {A B : Type 0} {Behind : List ℕ → Type 0} {text : A → List ℕ} → List ℕ → ReadsBefore Behind text →
+    (A → B) → Kind B
 kind name fields make = record { name = name; read = λ text. mapped make (fields.read text) }
 
 abbrev pub same_word : List ℕ → List ℕ → Bool
@@ -152,12 +158,13 @@ read_kinds kinds [] = None
 read_kinds kinds (c ∷ cs) = read_named kinds (first_word cs) (other_words cs)
 
 -- a value of a kind is read back where its name leads to the kind
-pub named : {A B : Type 0} {text : A → List ℕ} (kinds : List (Kind B)) (name : List ℕ) (fields : Reads text)
+pub named : {A B : Type 0} {Behind : List ℕ → Type 0} {text : A → List ℕ} (kinds : List (Kind B)) (name : List ℕ)
+    (fields : ReadsBefore Behind text)
     (make : A → B) → is_plain name ≡ true →
     ((rest : List ℕ) → read_named kinds name rest ≡ mapped make (fields.read rest)) →
-    (value : A) (rest : List ℕ) → IsParted rest →
+    (value : A) (rest : List ℕ) → Behind rest →
     read_kinds kinds ((word name ++ text value) ++ rest) ≡ Some (make value, rest)
-named {A} {B} {text} kinds name fields make plain leads value rest p =
+named {A} {B} {Behind} {text} kinds name fields make plain leads value rest p =
     let behind = fields.parted value rest p in
     ap (λ (whole : List ℕ). read_kinds kinds (32 ∷ whole)) (append_assoc name (text value) rest)
     ∙ (λ i. read_named kinds (first-word name (text value ++ rest) plain behind i)

@@ -1,4 +1,5 @@
 -- The texts of all that a report prints tell it.
+use Rattle.std.proofs.Common.{refl}
 use Rattle.pt_show.specs.Laws.{TextsTellValues}
 use Rattle.pt_show.proofs.Readers.{tells}
 use Rattle.pt_show.proofs.PlainTexts.{numbers, signed, byte_words, switches}
@@ -9,17 +10,17 @@ use Rattle.pt_show.proofs.AnswerReaders.{answers}
 
 pub texts_tell : TextsTellValues
 texts_tell = record {
-  numbers = tells _ numbers;
-  signed = tells _ signed;
-  bytes = tells _ byte_words;
-  switches = tells _ switches;
-  edits = tells _ edits;
-  calls = tells _ calls;
-  values = tells _ host_values;
-  host_replies = tells _ host_replies;
-  events = tells _ events;
-  event_replies = tells _ event_replies;
-  acts = tells _ acts;
-  act_replies = tells _ act_replies;
-  answers = tells _ answers;
+  numbers = tells _ numbers tt;
+  signed = tells _ signed tt;
+  bytes = tells _ byte_words tt;
+  switches = tells _ switches tt;
+  edits = tells _ edits tt;
+  calls = tells _ calls tt;
+  values = tells _ host_values tt;
+  host_replies = tells _ host_replies tt;
+  events = tells _ events (tt, refl);
+  event_replies = tells _ event_replies (tt, refl);
+  acts = tells _ acts (tt, refl);
+  act_replies = tells _ act_replies (tt, refl);
+  answers = tells _ answers tt;
 }

@@ -1,6 +1,6 @@
 -- Believed. What texts tell: a value has one text, and a text is that of one value.
-use Rattle.std.specs.Prelude.{◌≡◌, ℕ, ◌==◌, ◌||◌, Bool, IsTrue, List, [], ◌∷◌, ◌++◌}
-use Rattle.pt_show.specs.Texts.{number_text, signed_text, bytes_text, switch_text}
+use Rattle.std.specs.Prelude.{◌≡◌, ℕ, ◌==◌, ◌||◌, ◌&&◌, Bool, true, false, IsTrue, List, [], ◌∷◌, ◌++◌, codes}
+use Rattle.pt_show.specs.Texts.{word, number_text, signed_text, bytes_text, switch_text}
 use Rattle.pt_show.specs.EditTexts.{edit_text}
 use Rattle.pt_show.specs.HostTexts.{call_text, value_text, host_reply_text}
 use Rattle.pt_show.specs.SessionTexts.{event_text, event_reply_text}
@@ -16,15 +16,35 @@ abbrev pub IsParted : List ℕ → Type 0
 IsParted [] = Unit {0}
 IsParted (c ∷ rest) = IsTrue (is_separator c)
 
+-- whether a text begins with this one, and a word of it ends there
+abbrev pub begins_with : List ℕ → List ℕ → Bool
+begins_with [] [] = true
+begins_with [] (c ∷ rest) = is_separator c
+begins_with (d ∷ ds) [] = false
+begins_with (d ∷ ds) (c ∷ rest) = (d == c) && begins_with ds rest
+
+-- It ends a word before it, and does not begin with the word `class`: behind a value whose class 0 printed nothing that
+-- would be its class.
+abbrev pub IsUnclassed : List ℕ → Type 0
+IsUnclassed rest = IsParted rest × (begins_with (word (codes "class")) rest ≡ false)
+
 -- The text tells its value, and where it ends.
-pub record TellsValue {A : Type 0} (text : A → List ℕ) : Type 0 where
+pub record TellsBefore {A : Type 0} (Behind : List ℕ → Type 0) (text : A → List ℕ) : Type 0 where
   -- two values with one text are equal
   pub alone : (one other : A) → text one ≡ text other → one ≡ other
-  -- they are also where other words or lines follow, and then these are equal too
-  pub followed : (one other : A) (rest rest' : List ℕ) → IsParted rest → IsParted rest' →
+  -- they are also where something follows that may stand behind them, and then this is equal too
+  pub followed : (one other : A) (rest rest' : List ℕ) → Behind rest → Behind rest' →
       text one ++ rest ≡ text other ++ rest' → (one ≡ other) × (rest ≡ rest')
   -- the text itself is parted from a word before it
-  pub parted : (value : A) (rest : List ℕ) → IsParted rest → IsParted (text value ++ rest)
+  pub parted : (value : A) (rest : List ℕ) → Behind rest → IsParted (text value ++ rest)
+
+-- it does so before any other words or lines
+abbrev pub TellsValue : {A : Type 0} → (A → List ℕ) → Type 0
+TellsValue text = TellsBefore IsParted text
+
+-- and a value that may end in a class does so before any that begin with no class
+abbrev pub TellsClassed : {A : Type 0} → (A → List ℕ) → Type 0
+TellsClassed text = TellsBefore IsUnclassed text
 
 -- so it is with everything that a report prints
 pub record TextsTellValues : Type 0 where
@@ -36,8 +56,8 @@ pub record TextsTellValues : Type 0 where
   pub calls : TellsValue call_text
   pub values : TellsValue value_text
   pub host_replies : TellsValue host_reply_text
-  pub events : TellsValue event_text
-  pub event_replies : TellsValue event_reply_text
-  pub acts : TellsValue act_text
-  pub act_replies : TellsValue act_reply_text
+  pub events : TellsClassed event_text
+  pub event_replies : TellsClassed event_reply_text
+  pub acts : TellsClassed act_text
+  pub act_replies : TellsClassed act_reply_text
   pub answers : TellsValue answer_text

@@ -46,6 +46,18 @@ impl<'a> Words<'a> {
         T::read(self)
     }
 
+    /// The class that the next words name, or 0 where they name none.
+    pub(crate) fn class(&mut self) -> Result<u32, ReadError> {
+        let mut ahead = self.parts.left();
+        match ahead.next() {
+            Some(b"class") => {
+                self.parts = ahead;
+                self.next()
+            }
+            _ => Ok(0),
+        }
+    }
+
     /// The two values that the next words are.
     pub(crate) fn two<A: Read, B: Read>(&mut self) -> Result<(A, B), ReadError> {
         let first = self.next()?;

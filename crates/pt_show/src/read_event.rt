@@ -50,12 +50,14 @@ fn next_of_numbers(name: &str, words: &mut Words<'_>) -> Result<Option<KeptEvent
         }
         "Insert" => {
             let (era, number, form, ids, mode) = words.five()?;
+            let class = words.class()?;
             KeptEvent::Insert(NewRow {
                 era,
                 number,
                 form,
                 ids,
                 mode,
+                class,
             })
         }
         "InsertRoot" => {
@@ -80,16 +82,32 @@ fn next_of_numbers(name: &str, words: &mut Words<'_>) -> Result<Option<KeptEvent
     Ok(Some(event))
 }
 
+// The events of slots.
+fn next_of_slots(name: &str, words: &mut Words<'_>) -> Result<Option<KeptEvent>, ReadError> {
+    let event = match name {
+        "TakeFd" => KeptEvent::TakeFd {
+            class: words.class()?,
+        },
+        "GiveFd" => KeptEvent::GiveFd {
+            class: words.class()?,
+        },
+        _ => return Ok(None),
+    };
+    Ok(Some(event))
+}
+
 // The events of handles.
 fn next_of_handles(name: &str, words: &mut Words<'_>) -> Result<Option<KeptEvent>, ReadError> {
     let event = match name {
         "InsertHandle" => {
             let (era, handle, number, fd) = words.four()?;
+            let class = words.class()?;
             KeptEvent::InsertHandle(NewHandle {
                 era,
                 handle,
                 number,
                 fd,
+                class,
             })
         }
         "PinHandle" => {
@@ -110,8 +128,6 @@ fn next_of_handles(name: &str, words: &mut Words<'_>) -> Result<Option<KeptEvent
 fn bare_event(name: &str) -> Option<KeptEvent> {
     match name {
         "Begin" => Some(KeptEvent::Begin),
-        "TakeFd" => Some(KeptEvent::TakeFd),
-        "GiveFd" => Some(KeptEvent::GiveFd),
         "DrawNode" => Some(KeptEvent::DrawNode),
         "DrawHandle" => Some(KeptEvent::DrawHandle),
         "Clear" => Some(KeptEvent::Clear),
@@ -127,6 +143,9 @@ impl Read for KeptEvent {
             return Ok(event);
         }
         if let Some(event) = next_of_numbers(name, words)? {
+            return Ok(event);
+        }
+        if let Some(event) = next_of_slots(name, words)? {
             return Ok(event);
         }
         next_of_handles(name, words)?.ok_or(ReadError::Bad)

@@ -1,10 +1,11 @@
 ghost use Rattle.std.specs.Prelude.{◌≡◌, ◌++◌, OnOk};
 ghost use Rattle.pt_tables.specs.Change.{change_of};
 ghost use Rattle.pt_tables.specs.declared.event.KeptEvent.TheVariants as event;
-ghost use Rattle.pt_show.specs.SessionTexts.{form_text, row_text, negotiated_text, pair_text, forgets_text};
+ghost use Rattle.pt_show.specs.SessionTexts.{form_text, class_text, row_text, negotiated_text, pair_text};
+ghost use Rattle.pt_show.specs.SessionTexts.{forgets_text};
 ghost use Rattle.pt_show.specs.SessionTexts.{event_text, refusal_text, event_reply_text};
 
-use crate::plain::{push_four, push_name, push_named, push_three, push_two};
+use crate::plain::{push_five, push_name, push_named, push_three, push_two};
 use crate::text::Text;
 use pt_host::ObjIds;
 use pt_session::{
@@ -23,6 +24,21 @@ impl Text for RowForm {
     }
 }
 
+/// A class, the last field of its event or reply. Class 0 prints nothing.
+#[derive(Clone, Copy)]
+struct Class(u32);
+
+impl Text for Class {
+    ghost text = { λ class. class_text class.0 };
+
+    fn write(&self, out: &mut Vec<u8>) -> Result<(), AllocError> {
+        if self.0 == 0 {
+            return Ok(());
+        }
+        push_named(out, b" class", &self.0)
+    }
+}
+
 // What a row keeps of its object.
 fn write_row(out: &mut Vec<u8>, form: &RowForm, ids: ObjIds, mode: u32) -> Result<(), AllocError>
     ensures { OnOk result (out.new.items ≡ out.old.items ++ row_text form.now ids mode) }
@@ -36,7 +52,8 @@ fn write_insertion(out: &mut Vec<u8>, new: &NewRow) -> Result<(), AllocError>
     ensures { OnOk result (out.new.items ≡ out.old.items ++ event_text (event.Insert new.now)) }
 {
     push_two(out, b" Insert", &new.era, &new.number)?;
-    write_row(out, &new.form, new.ids, new.mode)
+    write_row(out, &new.form, new.ids, new.mode)?;
+    Class(new.class).write(out)
 }
 
 fn write_root(out: &mut Vec<u8>, new: &NewRoot) -> Result<(), AllocError>
@@ -86,8 +103,8 @@ impl Text for Event<'_> {
             Event::Claim(claim) => {
                 push_three(out, b" Claim", &claim.era, &claim.handle, &claim.ids)
             }
-            Event::TakeFd => push_name(out, b" TakeFd"),
-            Event::GiveFd => push_name(out, b" GiveFd"),
+            Event::TakeFd { class } => push_named(out, b" TakeFd", &Class(*class)),
+            Event::GiveFd { class } => push_named(out, b" GiveFd", &Class(*class)),
             Event::DrawNode => push_name(out, b" DrawNode"),
             Event::Insert(new) => write_insertion(out, new),
             Event::InsertRoot(new) => write_root(out, new),
@@ -98,13 +115,14 @@ impl Text for Event<'_> {
             Event::GiveBack { era, number } => push_two(out, b" GiveBack", era, number),
             Event::DrawHandle => push_name(out, b" DrawHandle"),
             Event::InsertHandle(new) => {
-                push_four(
+                push_five(
                     out,
                     b" InsertHandle",
                     &new.era,
                     &new.handle,
                     &new.number,
                     &new.fd,
+                    &Class(new.class),
                 )
             }
             Event::PinHandle { handle, number } => push_two(out, b" PinHandle", handle, number),
@@ -147,17 +165,28 @@ impl Text for EventReply {
             EventReply::Began { era, negotiated } => push_two(out, b" Began", era, negotiated),
             EventReply::Resolved(resolved) => {
                 push_named(out, b" Resolved", &resolved.row)?;
-                write_row(out, &resolved.form, resolved.ids, resolved.mode)
+                write_row(out, &resolved.form, resolved.ids, resolved.mode)?;
+                Class(resolved.class).write(out)
             }
             EventReply::Done { closings } => push_named(out, b" Done", closings),
-            EventReply::Claimed(given) => push_named(out, b" Claimed", &given.number),
+            EventReply::Claimed(given) => {
+                push_two(out, b" Claimed", &given.number, &Class(given.class))
+            }
             EventReply::Absent => push_name(out, b" Absent"),
             EventReply::Taken => push_name(out, b" Taken"),
             EventReply::Given => push_name(out, b" Given"),
             EventReply::Drawn { number } => push_named(out, b" Drawn", number),
             EventReply::Inserted { number } => push_named(out, b" Inserted", number),
-            EventReply::Found(given) => push_named(out, b" Found", &given.number),
-            EventReply::Closing(first) => push_two(out, b" Closing", &first.fd, &first.slot),
+            EventReply::Found(given) => {
+                push_two(out, b" Found", &given.number, &Class(given.class))
+            }
+            EventReply::Closing(first) => push_three(
+                out,
+                b" Closing",
+                &first.fd,
+                &first.slot,
+                &Class(first.class),
+            ),
             EventReply::Pinned { row, fd } => push_two(out, b" Pinned", row, fd),
             EventReply::Cleared { era, closings } => push_two(out, b" Cleared", era, closings),
             EventReply::Refused(refusal) => push_named(out, b" Refused", refusal),

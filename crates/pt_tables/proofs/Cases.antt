@@ -15,7 +15,7 @@ use Rattle.pt_tables.specs.Outcome.{last_u64, RefusesEvent}
 use Rattle.pt_tables.specs.Effect.{IsFree}
 use Rattle.pt_tables.specs.Happens.{Happens, ForgetsOne, ForgetsAll, Clears, TakesFirst, with_row, new_row}
 use Rattle.pt_tables.specs.Happens.{with_handle}
-use Rattle.pt_tables.specs.Happens.{new_handle, agreed, given_of, resolved_of}
+use Rattle.pt_tables.specs.Happens.{new_handle, agreed, given_of, resolved_of, slots_left, limit_of, with_slots}
 use Rattle.pt_tables.specs.declared.event.KeptEvent.TheVariants as change
 use Rattle.pt_tables.specs.declared.reply.EventRefusal.{EventRefusal}
 use Rattle.pt_tables.specs.declared.reply.EventRefusal.TheVariants.{NotLive, Overtaken, NoSlot, Last, Live, Memory}
@@ -58,7 +58,7 @@ Reason tables (change.GiveBack era number) Overtaken = era ≢ tables.era
 Reason tables (change.InsertHandle new) Overtaken = new.era ≢ tables.era
 Reason tables (change.Unpin serial) NotLive = NoRow tables (IsPinned number_rows.keyed serial)
 Reason tables (change.UnpinHandle serial) NotLive = NoHandle tables (IsPinned handle_rows.keyed serial)
-Reason tables change.GiveFd NotLive = tables.limit ≤ tables.slots
+Reason tables (change.GiveFd class) NotLive = limit_of tables class ≤ slots_left tables class
 Reason tables change.TakeClosing NotLive = tables.closing ≡ []
 Reason tables asked refusal = Unit {0}
 
@@ -76,21 +76,22 @@ Case tables (change.Claim claim) (reply.Claimed given) after =
     (claim.era ≡ tables.era) × GivenAgain tables claim.ids given.number after
 Case tables (change.Claim claim) reply.Absent after =
     (claim.era ≡ tables.era) × NoRow tables (HasIds claim.ids) × (after ≡ tables)
-Case tables change.TakeFd reply.Taken after =
-    (slots : ℕ) × (tables.slots ≡ suc slots) × (after ≡ record tables { slots = slots })
-Case tables change.GiveFd reply.Given after =
-    (tables.slots < tables.limit) × (after ≡ record tables { slots = tables.slots + 1 })
+Case tables (change.TakeFd class) reply.Taken after =
+    (slots : ℕ) × (slots_left tables class ≡ suc slots) × (after ≡ with_slots tables class slots)
+Case tables (change.GiveFd class) reply.Given after =
+    (slots_left tables class < limit_of tables class)
+    × (after ≡ with_slots tables class (slots_left tables class + 1))
 Case tables change.DrawNode (reply.Drawn number) after =
     (number ≡ tables.next_number) × (tables.next_number < last_u64)
     × (after ≡ record tables { next_number = tables.next_number + 1 })
 Case tables (change.Insert new) (reply.Inserted given) after =
     (new.era ≡ tables.era) × IsFree tables new.number new.ids × (tables.next_row < last_u64) × (given ≡ new.number)
-    × (after ≡ with_row tables (new_row tables new.number new.form new.ids new.mode 1))
+    × (after ≡ with_row tables (new_row tables new.number new.form new.ids new.mode new.class 1))
 Case tables (change.Insert new) (reply.Found given) after =
     (new.era ≡ tables.era) × GivenAgain tables new.ids given.number after
 Case tables (change.InsertRoot new) (reply.Inserted given) after =
     (new.era ≡ tables.era) × IsFree tables 1 new.ids × (tables.next_row < last_u64) × (given ≡ 1)
-    × (after ≡ agreed new.negotiated (with_row tables (new_row tables 1 new.form new.ids new.mode 2)))
+    × (after ≡ agreed new.negotiated (with_row tables (new_row tables 1 new.form new.ids new.mode 0 2)))
 Case tables (change.Forget list) (reply.Done closings) after = ForgetsAll tables list closings after
 Case tables (change.GiveBack era number) (reply.Done closings) after =
     (era ≡ tables.era) × ((row : Row) × IsRow tables row × HasNumber number row)
@@ -100,7 +101,7 @@ Case tables change.DrawHandle (reply.Drawn handle) after =
     × (after ≡ record tables { next_handle = tables.next_handle + 1 })
 Case tables (change.InsertHandle new) (reply.Inserted given) after =
     (new.era ≡ tables.era) × NoHandle tables (HasHandle new.handle) × (tables.next_row < last_u64)
-    × (given ≡ new.handle) × (after ≡ with_handle tables (new_handle tables new.handle new.number new.fd))
+    × (given ≡ new.handle) × (after ≡ with_handle tables (new_handle tables new.handle new.number new.fd new.class))
 Case tables (change.PinHandle handle number) (reply.Pinned serial fd) after =
     (row : HandleRow) × IsHandle handle number row × (row.serial ≡ serial) × (row.fd ≡ fd) × IsHandleRow tables row
     × ChangesRow handle_rows tables row (record row { pins = row.pins + 1 }) after
@@ -135,8 +136,8 @@ is_free tables number ids h = (
       tables.rows (λ row no has. no (inl has)) h,
 )
 
-none_out : (tables : Tables) → (tables.slots < tables.limit → ⊥) → tables.limit ≤ tables.slots
-none_out tables full = let l : tables.limit < suc tables.slots = lt_of_not-le full in omega arith
+none_out : (left limit : ℕ) → (left < limit → ⊥) → limit ≤ left
+none_out left limit full = let l : limit < suc left = lt_of_not-le full in omega arith
 
 takes_first : (tables after : Tables) (told : EventReply) (list : List Closing) → tables.closing ≡ list →
     TakesFirst tables list told after → Case tables change.TakeClosing told after
@@ -171,14 +172,16 @@ cases tables after (change.Claim claim) told (inl on) = elim on.1 [
     | inr last ↦ refused tables after (change.Claim claim) told Last tt tt last.1
   ]
 ]
-cases tables after change.TakeFd told (inl on) =
-    told_as tables after change.TakeFd told reply.Taken on.1.0
-    (tables.slots - 1, (let some = on.0 in omega arith), on.1.1)
-cases tables after change.TakeFd told (inr none) = refused tables after change.TakeFd told NoSlot tt tt none.1
-cases tables after change.GiveFd told (inl on) =
-    told_as tables after change.GiveFd told reply.Given on.1.0 (on.0, on.1.1)
-cases tables after change.GiveFd told (inr none) =
-    refused tables after change.GiveFd told NotLive tt (none_out tables none.0) none.1
+cases tables after (change.TakeFd class) told (inl on) =
+    told_as tables after (change.TakeFd class) told reply.Taken on.1.0
+    (slots_left tables class - 1, (let some = on.0 in omega arith), on.1.1)
+cases tables after (change.TakeFd class) told (inr none) =
+    refused tables after (change.TakeFd class) told NoSlot tt tt none.1
+cases tables after (change.GiveFd class) told (inl on) =
+    told_as tables after (change.GiveFd class) told reply.Given on.1.0 (on.0, on.1.1)
+cases tables after (change.GiveFd class) told (inr none) =
+    refused tables after (change.GiveFd class) told NotLive tt
+    (none_out (slots_left tables class) (limit_of tables class) none.0) none.1
 cases tables after change.DrawNode told (inl on) =
     told_as tables after change.DrawNode told (reply.Drawn tables.next_number) on.1.0
     (refl, on.0, on.1.1)

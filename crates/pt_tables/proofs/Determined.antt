@@ -14,7 +14,8 @@ use Rattle.pt_rows.specs.Rows.{IsPinned}
 use Rattle.pt_tables.specs.Outcome.{EventOutcome, Leaves, Replies, Closes, UnlessRow, IfRow, Below, Pins}
 use Rattle.pt_tables.specs.Outcome.{Adds}
 use Rattle.pt_tables.specs.Happens.{Happens, Falls, ForgetsAll, Clears, GivesAgain, TakesFirst, with_row, new_row}
-use Rattle.pt_tables.specs.Happens.{with_handle, new_handle, agreed, given_of, resolved_of}
+use Rattle.pt_tables.specs.Happens.{with_handle, new_handle, agreed, given_of, resolved_of, slots_left, limit_of}
+use Rattle.pt_tables.specs.Happens.{with_slots}
 use Rattle.pt_rows.proofs.Alone.{none_taken}
 use Rattle.pt_tables.proofs.Effects.{Makes, numbers_make, handles_make}
 use Rattle.pt_tables.proofs.Outcomes.{Alone, IsApart, numbers_apart, handles_apart, leaves_alone, tells_alone}
@@ -81,25 +82,26 @@ alone tables (change.Claim claim) agree =
     (GivesAgain tables claim.ids (λ given. reply.Claimed given) (Replies reply.Absent tables))
     (again_alone tables claim.ids (λ given. reply.Claimed given) (Replies reply.Absent tables) agree
     (tells_alone reply.Absent tables))
-alone tables change.TakeFd agree =
-    unless_alone tables (0 < tables.slots) NoSlot (Replies reply.Taken (record tables { slots = tables.slots - 1 }))
-    (tells_alone reply.Taken (record tables { slots = tables.slots - 1 }))
-alone tables change.GiveFd agree =
-    unless_alone tables (tables.slots < tables.limit) NotLive
-    (Replies reply.Given (record tables { slots = tables.slots + 1 }))
-    (tells_alone reply.Given (record tables { slots = tables.slots + 1 }))
+alone tables (change.TakeFd class) agree =
+    unless_alone tables (0 < slots_left tables class) NoSlot
+    (Replies reply.Taken (with_slots tables class (slots_left tables class - 1)))
+    (tells_alone reply.Taken (with_slots tables class (slots_left tables class - 1)))
+alone tables (change.GiveFd class) agree =
+    unless_alone tables (slots_left tables class < limit_of tables class) NotLive
+    (Replies reply.Given (with_slots tables class (slots_left tables class + 1)))
+    (tells_alone reply.Given (with_slots tables class (slots_left tables class + 1)))
 alone tables change.DrawNode agree = below_alone tables tables.next_number
     (Replies (reply.Drawn tables.next_number) (record tables { next_number = tables.next_number + 1 }))
     (tells_alone (reply.Drawn tables.next_number) (record tables { next_number = tables.next_number + 1 }))
 alone tables (change.Insert new) agree =
-    let left = with_row tables (new_row tables new.number new.form new.ids new.mode 1) in
+    let left = with_row tables (new_row tables new.number new.form new.ids new.mode new.class 1) in
     let On = IfRow tables number_rows (HasNumber new.number) Live (Adds tables (reply.Inserted new.number) left) in
     era_alone tables new.era (GivesAgain tables new.ids (λ given. reply.Found given) On)
     (again_alone tables new.ids (λ given. reply.Found given) On agree
     (if_row number_rows AreApart numbers_apart tables agree (HasNumber new.number) (number_one new.number) Live
     (Adds tables (reply.Inserted new.number) left) (adds_alone tables (reply.Inserted new.number) left)))
 alone tables (change.InsertRoot new) agree =
-    let left = agreed new.negotiated (with_row tables (new_row tables 1 new.form new.ids new.mode 2)) in
+    let left = agreed new.negotiated (with_row tables (new_row tables 1 new.form new.ids new.mode 0 2)) in
     era_alone tables new.era (IfRow tables number_rows (λ row. HasNumber 1 row ⊎ HasIds new.ids row) Live
     (Adds tables (reply.Inserted 1) left))
     (taken_one tables new.ids (Adds tables (reply.Inserted 1) left) (adds_alone tables (reply.Inserted 1) left))
@@ -115,7 +117,7 @@ alone tables change.DrawHandle agree = below_alone tables tables.next_handle
     (Replies (reply.Drawn tables.next_handle) (record tables { next_handle = tables.next_handle + 1 }))
     (tells_alone (reply.Drawn tables.next_handle) (record tables { next_handle = tables.next_handle + 1 }))
 alone tables (change.InsertHandle new) agree =
-    let left = with_handle tables (new_handle tables new.handle new.number new.fd) in
+    let left = with_handle tables (new_handle tables new.handle new.number new.fd new.class) in
     era_alone tables new.era
     (IfRow tables handle_rows (HasHandle new.handle) Live (Adds tables (reply.Inserted new.handle) left))
     (if_row handle_rows AreHandlesApart handles_apart tables agree (HasHandle new.handle) (handle_one new.handle) Live

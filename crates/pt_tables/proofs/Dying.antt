@@ -178,6 +178,6 @@ clears tables after closings h =
           ∙ clears_keep (λ t. t.next_row) (λ t r. refl) (λ t r. refl) (λ t c. refl) tables after closings h;
       slots = ap (λ (t : Tables). t.slots) last
           ∙ clears_keep (λ t. t.slots) (λ t r. refl) (λ t r. refl) (λ t c. refl) tables after closings h;
-      limit = ap (λ (t : Tables). t.limit) last
-          ∙ clears_keep (λ t. t.limit) (λ t r. refl) (λ t r. refl) (λ t c. refl) tables after closings h;
+      limits = ap (λ (t : Tables). t.limits) last
+          ∙ clears_keep (λ t. t.limits) (λ t r. refl) (λ t r. refl) (λ t c. refl) tables after closings h;
     }

@@ -19,6 +19,7 @@ use Rattle.pt_tables.specs.Effect.{IsFree, IsNewRow, IsNewHandle, Effect}
 use Rattle.pt_tables.specs.Effect.{Effect.{nothing, counted, changed, ended, added, drawn, begun, shut}}
 use Rattle.pt_tables.specs.Effect.{Effect.{handle_changed, handle_ended, handle_added}}
 use Rattle.pt_tables.specs.Effect.{Effects, Effects.{none, more}}
+use Rattle.pt_tables.proofs.ByClass.{taken_within, given_within, same_within}
 use Rattle.pt_tables.proofs.Cases.{Case, GivenAgain, GivesPin, cases}
 use Rattle.pt_tables.proofs.Dying.{clears_era}
 use Rattle.pt_rows.proofs.Lists.{each_replaces, each_takes, each_map, each_both, two_takes, two_replaces}
@@ -37,7 +38,8 @@ recounted : (tables after : Tables) (row : Row) (count pins : ℕ) → (row.live
     ChangesRow number_rows tables row (record row { count = count; pins = pins }) after → Effect tables after
 recounted tables after row count pins f g h =
     changed row _ h.0 h.1
-    (record { serial = refl; number = refl; ids = refl; form = refl; mode = refl; live = λ l. l }) (λ sound.
+    (record { serial = refl; number = refl; ids = refl; form = refl; mode = refl; class = refl; live = λ l. l })
+    (λ sound.
     record { drawn = sound.drawn; counted = λ l. f l (sound.counted l); pinned = λ d. g d (sound.pinned d) }) h.2
 
 pub numbers_make : Makes number_rows
@@ -45,7 +47,16 @@ numbers_make = record {
   ends = λ tables after row h. ended row h.0 h.1 h.2;
   repins = λ tables after row pins g h. recounted tables after row row.count pins (λ l m. m) g h;
   buries = λ tables after row some h. changed row _ h.0 h.1
-      (record { serial = refl; number = refl; ids = refl; form = refl; mode = refl; live = λ l. absurd (cc) })
+      (record {
+        serial = refl;
+        number = refl;
+        ids = refl;
+        form = refl;
+        mode = refl;
+        class = refl;
+        live = λ l. absurd
+            (cc);
+      })
       (λ sound. record { drawn = sound.drawn; counted = λ l. absurd (cc); pinned = λ d. omega (arith, some) }) h.2;
 }
 
@@ -53,10 +64,10 @@ pub handles_make : Makes handle_rows
 handles_make = record {
   ends = λ tables after row h. handle_ended row h.0 h.1 h.2;
   repins = λ tables after row pins g h. handle_changed row _ h.0 h.1
-      (record { serial = refl; handle = refl; number = refl; fd = refl; live = λ l. l })
+      (record { serial = refl; handle = refl; number = refl; fd = refl; class = refl; live = λ l. l })
       (λ sound. record { drawn = sound.drawn; pinned = λ d. g d (sound.pinned d) }) h.2;
   buries = λ tables after row some h. handle_changed row _ h.0 h.1
-      (record { serial = refl; handle = refl; number = refl; fd = refl; live = λ l. absurd (cc) })
+      (record { serial = refl; handle = refl; number = refl; fd = refl; class = refl; live = λ l. absurd (cc) })
       (λ sound. record { drawn = sound.drawn; pinned = λ d. omega (arith, some) }) h.2;
 }
 
@@ -98,14 +109,14 @@ again : (tables after : Tables) (ids : ObjIds) (number : ℕ) → GivenAgain tab
 again tables after ids number h =
     recounted tables after h.0 (h.0.count + 1) h.0.pins (λ l m. omega arith) (λ d m. m) h.4
 
-adds : (tables after : Tables) (number : ℕ) (form : RowForm) (ids : ObjIds) (mode count : ℕ)
+adds : (tables after : Tables) (number : ℕ) (form : RowForm) (ids : ObjIds) (mode class count : ℕ)
     (negotiated : Option Negotiated) → 1 ≤ count → IsFree tables number ids →
-    after ≡ agreed negotiated (with_row tables (new_row tables number form ids mode count)) → Effect tables after
-adds tables after number form ids mode count None l free e =
-    added (new_row tables number form ids mode count) tables.negotiated
+    after ≡ agreed negotiated (with_row tables (new_row tables number form ids mode class count)) → Effect tables after
+adds tables after number form ids mode class count None l free e =
+    added (new_row tables number form ids mode class count) tables.negotiated
     (record { serial = refl; live = refl; count = l; pins = refl; free = free }) e
-adds tables after number form ids mode count (Some negotiated) l free e =
-    added (new_row tables number form ids mode count) negotiated
+adds tables after number form ids mode class count (Some negotiated) l free e =
+    added (new_row tables number form ids mode class count) negotiated
     (record { serial = refl; live = refl; count = l; pins = refl; free = free }) e
 
 one : {tables after : Tables} → Effect tables after → Effects tables after
@@ -133,25 +144,25 @@ case_effects tables after (change.Unpin serial) (reply.Done closings) h =
 case_effects tables after (change.Claim claim) (reply.Claimed given) h =
     one (again tables after claim.ids given.number h.1)
 case_effects tables after (change.Claim claim) reply.Absent h = one (nothing h.2)
-case_effects tables after change.TakeFd reply.Taken h =
-    one (counted h.0 tables.next_number (λ l. omega (arith, h.1)) (omega arith) h.2)
-case_effects tables after change.GiveFd reply.Given h =
-    one (counted (tables.slots + 1) tables.next_number (λ l. omega (arith, h.0)) (omega arith) h.1)
+case_effects tables after (change.TakeFd class) reply.Taken h =
+    one (counted _ tables.next_number (taken_within tables class h.0 h.1) (omega arith) h.2)
+case_effects tables after (change.GiveFd class) reply.Given h =
+    one (counted _ tables.next_number (given_within tables class h.0) (omega arith) h.1)
 case_effects tables after change.DrawNode (reply.Drawn number) h =
-    one (counted tables.slots (tables.next_number + 1) (λ l. l) (omega arith) h.2)
+    one (counted tables.slots (tables.next_number + 1) (same_within tables) (omega arith) h.2)
 case_effects tables after (change.Insert new) (reply.Inserted given) h =
-    one (adds tables after new.number new.form new.ids new.mode 1 None (omega arith) h.1 h.4)
+    one (adds tables after new.number new.form new.ids new.mode new.class 1 None (omega arith) h.1 h.4)
 case_effects tables after (change.Insert new) (reply.Found given) h =
     one (again tables after new.ids given.number h.1)
 case_effects tables after (change.InsertRoot new) (reply.Inserted given) h =
-    one (adds tables after 1 new.form new.ids new.mode 2 new.negotiated (omega arith) h.1 h.4)
+    one (adds tables after 1 new.form new.ids new.mode 0 2 new.negotiated (omega arith) h.1 h.4)
 case_effects tables after (change.Forget list) (reply.Done closings) h = forgets_all tables after list closings h
 case_effects tables after (change.GiveBack era number) (reply.Done closings) h =
     one (forgets_one tables after number 1 closings h.2)
 case_effects tables after change.DrawHandle (reply.Drawn handle) h = one (drawn (tables.next_handle + 1) (omega arith)
     h.2)
 case_effects tables after (change.InsertHandle new) (reply.Inserted given) h =
-    one (handle_added (new_handle tables new.handle new.number new.fd)
+    one (handle_added (new_handle tables new.handle new.number new.fd new.class)
     (record { serial = refl; live = refl; pins = refl; free = h.1 }) h.4)
 case_effects tables after (change.PinHandle handle number) (reply.Pinned serial fd) h =
     one (handles_make.repins tables after h.0 (h.0.pins + 1) (λ d m. omega arith) h.5)
@@ -240,7 +251,8 @@ agree_effect tables after (counted slots next l m e) agree =
       sound_handles = agree.sound_handles;
       handles_apart = agree.handles_apart;
       serials = agree.serials;
-      slots = l agree.slots;
+      classes = l.classes ∙ agree.classes;
+      slots = l.slots agree.slots;
     })
 agree_effect tables after (changed was now rows r later sound e) agree = subst Agree (sym e) (record {
   sound = each_replaces (IsSoundRow tables.next_row) r sound agree.sound;
@@ -260,6 +272,7 @@ agree_effect tables after (changed was now rows r later sound e) agree = subst A
   handles_apart = agree.handles_apart;
   serials = each_replaces (AreOthers tables.handles) r (others_later tables.handles was now later.serial)
       agree.serials;
+  classes = agree.classes;
   slots = agree.slots;
 })
 agree_effect tables after (ended row rows t e) agree =
@@ -270,6 +283,7 @@ agree_effect tables after (ended row rows t e) agree =
       sound_handles = agree.sound_handles;
       handles_apart = agree.handles_apart;
       serials = each_takes (AreOthers tables.handles) t agree.serials;
+      classes = agree.classes;
       slots = agree.slots;
     })
 agree_effect tables after (added row negotiated new e) agree = subst Agree (sym e) (record {
@@ -290,6 +304,7 @@ agree_effect tables after (added row negotiated new e) agree = subst Agree (sym 
   sound_handles = handles_drawn tables agree;
   handles_apart = agree.handles_apart;
   serials = (others_new tables row new.serial agree, agree.serials);
+  classes = agree.classes;
   slots = agree.slots;
 })
 agree_effect tables after (drawn next l e) agree =
@@ -299,6 +314,7 @@ agree_effect tables after (drawn next l e) agree =
       sound_handles = agree.sound_handles;
       handles_apart = agree.handles_apart;
       serials = agree.serials;
+      classes = agree.classes;
       slots = agree.slots;
     })
 agree_effect tables after (handle_changed was now handles r later sound e) agree = subst Agree (sym e) (record {
@@ -318,6 +334,7 @@ agree_effect tables after (handle_changed was now handles r later sound e) agree
   serials = each_map (AreOthers tables.handles) (AreOthers handles) tables.rows (λ row others.
       each_replaces (λ (handle : HandleRow). row.serial
       ≢ handle.serial) r (λ n e. n (e ∙ later.serial)) others) agree.serials;
+  classes = agree.classes;
   slots = agree.slots;
 })
 agree_effect tables after (handle_ended row handles t e) agree = subst Agree (sym e) (record {
@@ -327,6 +344,7 @@ agree_effect tables after (handle_ended row handles t e) agree = subst Agree (sy
   handles_apart = two_takes AreHandlesApart t agree.handles_apart;
   serials = each_map (AreOthers tables.handles) (AreOthers handles) tables.rows (λ row others.
       each_takes (λ (handle : HandleRow). row.serial ≢ handle.serial) t others) agree.serials;
+  classes = agree.classes;
   slots = agree.slots;
 })
 agree_effect tables after (handle_added row new e) agree = subst Agree (sym e) (record {
@@ -346,6 +364,7 @@ agree_effect tables after (handle_added row new e) agree = subst Agree (sym e) (
   );
   handles_apart = (handles_apart_new tables row new agree, agree.handles_apart);
   serials = others_handle tables row new.serial agree;
+  classes = agree.classes;
   slots = agree.slots;
 })
 agree_effect tables after (begun era negotiated l e) agree =
@@ -355,6 +374,7 @@ agree_effect tables after (begun era negotiated l e) agree =
       sound_handles = agree.sound_handles;
       handles_apart = agree.handles_apart;
       serials = agree.serials;
+      classes = agree.classes;
       slots = agree.slots;
     })
 agree_effect tables after (shut first rest s e) agree =
@@ -364,6 +384,7 @@ agree_effect tables after (shut first rest s e) agree =
       sound_handles = agree.sound_handles;
       handles_apart = agree.handles_apart;
       serials = agree.serials;
+      classes = agree.classes;
       slots = agree.slots;
     })
 

@@ -6,6 +6,7 @@ pub mod KeptRows
 pub mod Dying
 pub mod Slots
 pub mod Forgetting
+pub mod ByClass
 pub mod Effects
 pub mod Replies
 pub mod Outcomes

@@ -26,8 +26,8 @@ answers tables after (change.Resolve number) (reply.Resolved resolved) h = tt
 answers tables after (change.Unpin serial) (reply.Done closings) h = tt
 answers tables after (change.Claim claim) (reply.Claimed given) h = tt
 answers tables after (change.Claim claim) reply.Absent h = tt
-answers tables after change.TakeFd reply.Taken h = tt
-answers tables after change.GiveFd reply.Given h = tt
+answers tables after (change.TakeFd class) reply.Taken h = tt
+answers tables after (change.GiveFd class) reply.Given h = tt
 answers tables after change.DrawNode (reply.Drawn number) h = tt
 answers tables after (change.Insert new) (reply.Inserted given) h = tt
 answers tables after (change.Insert new) (reply.Found given) h = tt
@@ -106,8 +106,8 @@ by_case tables after (change.Unpin serial) (reply.Done closings) h =
 by_case tables after (change.Claim claim) (reply.Claimed given) h =
     even tables after (changes_pending number_rows numbers_kept tables after h.1.0 _ h.1.4)
 by_case tables after (change.Claim claim) reply.Absent h = even tables after (ap pending_in h.2)
-by_case tables after change.TakeFd reply.Taken h = even tables after (ap pending_in h.2)
-by_case tables after change.GiveFd reply.Given h = even tables after (ap pending_in h.1)
+by_case tables after (change.TakeFd class) reply.Taken h = even tables after (ap pending_in h.2)
+by_case tables after (change.GiveFd class) reply.Given h = even tables after (ap pending_in h.1)
 by_case tables after change.DrawNode (reply.Drawn number) h = even tables after (ap pending_in h.2)
 by_case tables after (change.Insert new) (reply.Inserted given) h =
     grown tables after (agreed_pending tables after _ None h.4)

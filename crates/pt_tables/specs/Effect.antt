@@ -1,5 +1,5 @@
 -- Believed. The few ways in which an event changes the tables.
-use Rattle.std.specs.Prelude.{◌≡◌, ◌≤◌, ℕ, true, List, [], ◌∷◌, ◌++◌}
+use Rattle.std.specs.Prelude.{◌≡◌, ◌≤◌, ℕ, true, List, [], ◌∷◌, ◌++◌, length, slice_index}
 use Rattle.pt_host.specs.Words.{Takes, Replaces}
 use Rattle.pt_host.specs.declared.ids.ObjIds.{ObjIds}
 use Rattle.pt_tables.specs.declared.form.Negotiated.{Negotiated}
@@ -34,6 +34,7 @@ pub record IsLater (was now : Row) : Type 0 where
   pub ids : now.ids ≡ was.ids
   pub form : now.form ≡ was.form
   pub mode : now.mode ≡ was.mode
+  pub class : now.class ≡ was.class
   pub live : now.live ≡ true → was.live ≡ true
 
 -- the same handle's row as time goes on
@@ -42,13 +43,20 @@ pub record IsLaterHandle (was now : HandleRow) : Type 0 where
   pub handle : now.handle ≡ was.handle
   pub number : now.number ≡ was.number
   pub fd : now.fd ≡ was.fd
+  pub class : now.class ≡ was.class
   pub live : now.live ≡ true → was.live ≡ true
+
+-- as many slots of each class as its limit allows, where that was so
+pub record AreWithin (tables : Tables) (left : List ℕ) : Type 0 where
+  pub classes : length left ≡ length tables.slots
+  pub slots : ((class : ℕ) → slice_index tables.slots class ≤ slice_index tables.limits class) → (class : ℕ) →
+      slice_index left class ≤ slice_index tables.limits class
 
 -- one step: nothing, another count of slots, numbers or handles, a row of a number or a handle that changes, ends or
 -- is added, a closing that is taken, or a new era
 pub data Effect (tables after : Tables) : Type 0 where
   nothing : after ≡ tables → Effect tables after
-  counted : (slots next_number : ℕ) → (tables.slots ≤ tables.limit → slots ≤ tables.limit) →
+  counted : (slots : List ℕ) (next_number : ℕ) → AreWithin tables slots →
       tables.next_number ≤ next_number → after ≡ record tables { slots = slots; next_number = next_number } →
       Effect tables after
   changed : (was now : Row) (rows : List Row) → Replaces was now tables.rows rows → IsLater was now →

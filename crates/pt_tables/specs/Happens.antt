@@ -1,5 +1,6 @@
 -- Believed. One event of the tables: what it may be answered, and the tables that it leaves.
-use Rattle.std.specs.Prelude.{◌≡◌, ◌<◌, ◌≤◌, ◌⊎◌, ◌+◌, ◌-◌, ℕ, true, List, [], ◌∷◌, Option, Some, None}
+use Rattle.std.specs.Prelude.{◌≡◌, ◌<◌, ◌≤◌, ◌⊎◌, ◌+◌, ◌-◌, ℕ, true, List, [], ◌∷◌, Option, Some, None, slice_index}
+use Rattle.std.specs.Prelude.{slice_set}
 use Rattle.pt_host.specs.declared.ids.Fd.{Fd}
 use Rattle.pt_host.specs.declared.ids.ObjIds.{ObjIds}
 use Rattle.pt_tables.specs.Change.{Change}
@@ -47,12 +48,23 @@ Clears tables closings after =
     × (closings ≡ numbers + handles)
     × (after ≡ record last { era = tables.era + 1; negotiated = nothing_agreed })
 
-abbrev pub new_handle : Tables → ℕ → ℕ → Fd → HandleRow
-new_handle tables handle number fd = record {
+-- the slots that are left of a class, and its limit: none of a class that has no limit
+abbrev pub slots_left : Tables → ℕ → ℕ
+slots_left tables class = slice_index tables.slots class
+
+abbrev pub limit_of : Tables → ℕ → ℕ
+limit_of tables class = slice_index tables.limits class
+
+abbrev pub with_slots : Tables → ℕ → ℕ → Tables
+with_slots tables class left = record tables { slots = slice_set tables.slots class left }
+
+abbrev pub new_handle : Tables → ℕ → ℕ → Fd → ℕ → HandleRow
+new_handle tables handle number fd class = record {
   serial = tables.next_row;
   handle = handle;
   number = number;
   fd = fd;
+  class = class;
   pins = 0;
   live = true;
 }
@@ -60,13 +72,14 @@ new_handle tables handle number fd = record {
 abbrev pub with_handle : Tables → HandleRow → Tables
 with_handle tables row = record tables { next_row = tables.next_row + 1; handles = row ∷ tables.handles }
 
-abbrev pub new_row : Tables → ℕ → RowForm → ObjIds → ℕ → ℕ → Row
-new_row tables number form ids mode count = record {
+abbrev pub new_row : Tables → ℕ → RowForm → ObjIds → ℕ → ℕ → ℕ → Row
+new_row tables number form ids mode class count = record {
   serial = tables.next_row;
   number = number;
   form = form;
   ids = ids;
   mode = mode;
+  class = class;
   count = count;
   pins = 0;
   live = true;
@@ -81,7 +94,7 @@ agreed None tables = tables
 agreed (Some negotiated) tables = record tables { negotiated = negotiated }
 
 abbrev pub given_of : Row → GivenNumber
-given_of row = record { number = row.number }
+given_of row = record { number = row.number; class = row.class }
 
 -- a row of the object is given once more, unless its count is at its end; where there is none it goes on
 abbrev pub GivesAgain : Tables → ObjIds → (GivenNumber → EventReply) → EventOutcome → EventOutcome
@@ -91,7 +104,7 @@ GivesAgain tables ids tell On = ByRow tables number_rows (HasIds ids) On (λ row
 
 -- what resolving a number tells of its row
 abbrev pub resolved_of : Row → Resolved
-resolved_of row = record { row = row.serial; form = row.form; ids = row.ids; mode = row.mode }
+resolved_of row = record { row = row.serial; form = row.form; ids = row.ids; mode = row.mode; class = row.class }
 
 -- the first of what is to be closed is taken, unless nothing is
 abbrev pub TakesFirst : Tables → List Closing → EventOutcome
@@ -117,13 +130,14 @@ Happens tables (change.Unpin serial) =
 -- where it has a row, Last at the end of its count. Rows are found by ids alone, as long as all are in file form.
 Happens tables (change.Claim claim) =
     InEra tables claim.era (GivesAgain tables claim.ids (λ given. reply.Claimed given) (Replies reply.Absent tables))
--- `TakeFd` takes a descriptor slot. Refused: NoSlot unless one is left.
-Happens tables change.TakeFd =
-    Unless tables (0 < tables.slots) NoSlot (Replies reply.Taken (record tables { slots = tables.slots - 1 }))
--- `GiveFd` gives a slot back. Refused: NotLive unless one is out.
-Happens tables change.GiveFd =
-    Unless tables (tables.slots < tables.limit) NotLive
-    (Replies reply.Given (record tables { slots = tables.slots + 1 }))
+-- `TakeFd` takes a descriptor slot of a class. Refused: NoSlot unless one is left.
+Happens tables (change.TakeFd class) =
+    Unless tables (0 < slots_left tables class) NoSlot
+    (Replies reply.Taken (with_slots tables class (slots_left tables class - 1)))
+-- `GiveFd` gives a slot of a class back. Refused: NotLive unless one is out.
+Happens tables (change.GiveFd class) =
+    Unless tables (slots_left tables class < limit_of tables class) NotLive
+    (Replies reply.Given (with_slots tables class (slots_left tables class + 1)))
 -- `DrawNode` draws the next number. Refused: Last at the end of the numbers.
 Happens tables change.DrawNode = Below tables tables.next_number
     (Replies (reply.Drawn tables.next_number) (record tables { next_number = tables.next_number + 1 }))
@@ -134,13 +148,14 @@ Happens tables (change.Insert new) =
     InEra tables new.era (GivesAgain tables new.ids (λ given. reply.Found given)
     (IfRow tables number_rows (HasNumber new.number) Live
     (Adds tables (reply.Inserted new.number)
-    (with_row tables (new_row tables new.number new.form new.ids new.mode 1)))))
--- `InsertRoot` adds a row of number 1 with count 2, and keeps what was agreed on, where that is said. Refused:
+    (with_row tables (new_row tables new.number new.form new.ids new.mode new.class 1)))))
+-- `InsertRoot` adds a row of number 1 of class 0 with count 2, and keeps what was agreed on, where that is said.
+-- Refused:
 -- Overtaken; then Live if number 1 is or the object has a row; then Last at the end of the serials; then Memory.
 Happens tables (change.InsertRoot new) =
     InEra tables new.era (IfRow tables number_rows (λ row. HasNumber 1 row ⊎ HasIds new.ids row) Live
     (Adds tables (reply.Inserted 1)
-    (agreed new.negotiated (with_row tables (new_row tables 1 new.form new.ids new.mode 2)))))
+    (agreed new.negotiated (with_row tables (new_row tables 1 new.form new.ids new.mode 0 2)))))
 -- `Forget` lets the counts of the pairs fall, in order. It is never refused.
 Happens tables (change.Forget list) = Closes (ForgetsAll tables list)
 -- `GiveBack` lets a live number's count fall by one. Refused: Overtaken; then NotLive unless the number is.
@@ -153,7 +168,8 @@ Happens tables change.DrawHandle = Below tables tables.next_handle
 -- the serials; then Memory.
 Happens tables (change.InsertHandle new) =
     InEra tables new.era (IfRow tables handle_rows (HasHandle new.handle) Live
-    (Adds tables (reply.Inserted new.handle) (with_handle tables (new_handle tables new.handle new.number new.fd))))
+    (Adds tables (reply.Inserted new.handle)
+    (with_handle tables (new_handle tables new.handle new.number new.fd new.class))))
 -- `PinHandle` pins the row of a live handle of that number and tells it. Refused: NotLive unless there is one; then
 -- Last at the end of the row's pins.
 Happens tables (change.PinHandle handle number) =

@@ -15,8 +15,8 @@ tables_of it = record {
   next_number = it.next_number;
   next_handle = it.next_handle;
   next_row = it.next_row;
-  slots = it.slots;
-  limit = it.limit;
+  slots = it.slots.items;
+  limits = it.limits.items;
   negotiated = it.negotiated;
   rows = it.store.rows;
   handles = it.store.handles;
@@ -29,5 +29,6 @@ Matches tables ids matching.Nothing after = NoRow tables (HasIds ids) × (after 
 Matches tables ids matching.Full after =
     (row : Row) × IsRow tables row × HasIds ids row × (row.count ≡ last_u64) × (after ≡ tables)
 Matches tables ids (matching.Given given) after =
-    (row : Row) × IsRow tables row × HasIds ids row × (row.number ≡ given.number) × (row.count < last_u64)
+    (row : Row) × IsRow tables row × HasIds ids row × (row.number ≡ given.number) × (row.class ≡ given.class)
+    × (row.count < last_u64)
     × ChangesRow number_rows tables row (record row { count = row.count + 1 }) after

@@ -1,5 +1,5 @@
 -- Believed. What holds of every event, whatever it is.
-use Rattle.std.specs.Prelude.{◌≡◌, ◌≤◌, ◌+◌, ℕ, true}
+use Rattle.std.specs.Prelude.{◌≡◌, ◌≤◌, ◌+◌, ℕ, List, true}
 use Rattle.pt_tables.specs.Change.{Change}
 use Rattle.pt_tables.specs.Tables.{Tables, Agree, nothing_agreed, empty_tables}
 use Rattle.pt_tables.specs.Rows.{NoRow, NoHandle}
@@ -23,7 +23,7 @@ EventsKeepAgreement = OfEachEvent (λ tables asked told after. Agree tables → 
 
 -- the tables of a new session agree
 abbrev pub NewTablesAgree : Type 0
-NewTablesAgree = (limit : ℕ) → Agree (empty_tables limit)
+NewTablesAgree = (limits : List ℕ) → Agree (empty_tables limits)
 
 -- a refused event changes nothing
 abbrev pub RefusalsChangeNothing : Type 0
@@ -56,7 +56,7 @@ pub record IsCleared (tables after : Tables) (era : ℕ) : Type 0 where
   pub next_handle : after.next_handle ≡ tables.next_handle
   pub next_row : after.next_row ≡ tables.next_row
   pub slots : after.slots ≡ tables.slots
-  pub limit : after.limit ≡ tables.limit
+  pub limits : after.limits ≡ tables.limits
 
 abbrev pub ClearingsClear : Type 0
 ClearingsClear = (tables after : Tables) (era closings : ℕ) → Happens tables Clear (Cleared era closings) after →

@@ -17,6 +17,7 @@ number_rows = record {
   keyed = record {
     serial = λ row. row.serial;
     key = λ row. row.number;
+    class = λ row. row.class;
     pins = λ row. row.pins;
     live = λ row. row.live;
     repinned = λ row pins. record row { pins = pins };
@@ -33,6 +34,7 @@ handle_rows = record {
   keyed = record {
     serial = λ row. row.serial;
     key = λ row. row.handle;
+    class = λ row. row.class;
     pins = λ row. row.pins;
     live = λ row. row.live;
     repinned = λ row pins. record row { pins = pins };

@@ -1,5 +1,5 @@
 -- Believed. The session's tables as lists, and when they fit together.
-use Rattle.std.specs.Prelude.{◌≡◌, ◌≢◌, ◌<◌, ◌≤◌, ℕ, true, false, List, []}
+use Rattle.std.specs.Prelude.{◌≡◌, ◌≢◌, ◌<◌, ◌≤◌, ℕ, true, false, List, [], length, slice_index}
 use Rattle.pt_host.specs.Words.{Each, EachTwo}
 use Rattle.pt_host.specs.declared.ids.ObjIds.{ObjIds}
 use Rattle.pt_tables.specs.declared.form.RowForm.{RowForm}
@@ -10,14 +10,14 @@ pub use Rattle.pt_tables.specs.declared.row.HandleRow.{HandleRow}
 pub use Rattle.pt_tables.specs.declared.row.Closing.{Closing}
 
 -- The newest row stands first in either list; the closing list is first in, first out. All rows' serials come from
--- one counter.
+-- one counter. Descriptor slots are counted by class: what is left, and the limit of each class, stand at its place.
 pub record Tables : Type 0 where
   pub era : ℕ
   pub next_number : ℕ
   pub next_handle : ℕ
   pub next_row : ℕ
-  pub slots : ℕ
-  pub limit : ℕ
+  pub slots : List ℕ
+  pub limits : List ℕ
   pub negotiated : Negotiated
   pub rows : List Row
   pub handles : List HandleRow
@@ -27,30 +27,30 @@ pub record Tables : Type 0 where
 abbrev pub nothing_agreed : Negotiated
 nothing_agreed = record { writeback = false; announce_submounts = false; posix_acl = false; sup_group = false }
 
--- the tables of a new session
-abbrev pub empty_tables : ℕ → Tables
-empty_tables limit = record {
+-- the tables of a new session, whose classes have these limits
+abbrev pub empty_tables : List ℕ → Tables
+empty_tables limits = record {
   era = 0;
   next_number = 2;
   next_handle = 0;
   next_row = 0;
-  slots = limit;
-  limit = limit;
+  slots = limits;
+  limits = limits;
   negotiated = nothing_agreed;
   rows = [];
   handles = [];
   closing = [];
 }
 
--- what is to be closed when the row ends
+-- what is to be closed when the row ends, with its class
 abbrev pub closing_of : Row → Closing
 closing_of row = closing_by row.form
   where
     closing_by : RowForm → Closing
-    closing_by (File fd) = record { fd = fd; slot = true }
+    closing_by (File fd) = record { fd = fd; slot = true; class = row.class }
 
 abbrev pub closing_of_handle : HandleRow → Closing
-closing_of_handle row = record { fd = row.fd; slot = true }
+closing_of_handle row = record { fd = row.fd; slot = true; class = row.class }
 
 -- the row is live, and has this number
 abbrev pub HasNumber : ℕ → Row → Type 0
@@ -96,4 +96,5 @@ pub record Agree (tables : Tables) : Type 0 where
   pub sound_handles : Each (IsSoundHandle tables.next_row) tables.handles
   pub handles_apart : EachTwo AreHandlesApart tables.handles
   pub serials : Each (λ row. Each (λ handle. row.serial ≢ handle.serial) tables.handles) tables.rows
-  pub slots : tables.slots ≤ tables.limit
+  pub classes : length tables.slots ≡ length tables.limits
+  pub slots : (class : ℕ) → slice_index tables.slots class ≤ slice_index tables.limits class

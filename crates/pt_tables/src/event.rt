@@ -59,9 +59,10 @@ pub struct NewRow {
     pub form: RowForm,
     pub ids: ObjIds,
     pub mode: u32,
+    pub class: u32,
 }
 
-/// The row of number 1, with what was agreed on, where that is said.
+/// The row of number 1, whose class is 0, with what was agreed on, where that is said.
 #[derive(Drop)]
 pub struct NewRoot {
     pub era: u64,
@@ -71,13 +72,14 @@ pub struct NewRoot {
     pub negotiated: Option<Negotiated>,
 }
 
-/// A handle that is to be inserted, with the number that it was opened for.
+/// A handle that is to be inserted, with the number that it was opened for and its class.
 #[derive(Clone, Copy)]
 pub struct NewHandle {
     pub era: u64,
     pub handle: u64,
     pub number: u64,
     pub fd: Fd,
+    pub class: u32,
 }
 
 /// One change of the tables. A number is the guest's, a row is named by its serial.
@@ -90,9 +92,9 @@ pub enum Event<'a> {
     Unpin { row: u64 },
     /// Gives the number of a live row of this object once more.
     Claim(Claim<'a>),
-    /// Takes a descriptor slot.
-    TakeFd,
-    GiveFd,
+    /// Takes a descriptor slot of this class.
+    TakeFd { class: u32 },
+    GiveFd { class: u32 },
     /// Draws a number that was never given.
     DrawNode,
     Insert(NewRow),
@@ -124,8 +126,8 @@ pub enum KeptEvent {
     Resolve { number: u64 },
     Unpin { row: u64 },
     Claim(KeptClaim),
-    TakeFd,
-    GiveFd,
+    TakeFd { class: u32 },
+    GiveFd { class: u32 },
     DrawNode,
     Insert(NewRow),
     InsertRoot(NewRoot),
@@ -186,6 +188,7 @@ impl NewRow {
             form: self.form.copy(),
             ids: self.ids,
             mode: self.mode,
+            class: self.class,
         }
     }
 }
@@ -216,8 +219,8 @@ impl<'a> Event<'a> {
             Event::Resolve { number } => Ok(KeptEvent::Resolve { number: *number }),
             Event::Unpin { row } => Ok(KeptEvent::Unpin { row: *row }),
             Event::Claim(claim) => Ok(KeptEvent::Claim(claim.keep())),
-            Event::TakeFd => Ok(KeptEvent::TakeFd),
-            Event::GiveFd => Ok(KeptEvent::GiveFd),
+            Event::TakeFd { class } => Ok(KeptEvent::TakeFd { class: *class }),
+            Event::GiveFd { class } => Ok(KeptEvent::GiveFd { class: *class }),
             Event::DrawNode => Ok(KeptEvent::DrawNode),
             Event::Insert(new) => Ok(KeptEvent::Insert(new.copy())),
             Event::InsertRoot(new) => Ok(KeptEvent::InsertRoot(new.copy())),
@@ -262,8 +265,8 @@ impl KeptEvent {
             KeptEvent::Resolve { number } => Event::Resolve { number: *number },
             KeptEvent::Unpin { row } => Event::Unpin { row: *row },
             KeptEvent::Claim(claim) => Event::Claim(claim.lend()),
-            KeptEvent::TakeFd => Event::TakeFd,
-            KeptEvent::GiveFd => Event::GiveFd,
+            KeptEvent::TakeFd { class } => Event::TakeFd { class: *class },
+            KeptEvent::GiveFd { class } => Event::GiveFd { class: *class },
             KeptEvent::DrawNode => Event::DrawNode,
             KeptEvent::Insert(new) => Event::Insert(new.copy()),
             KeptEvent::InsertRoot(new) => Event::InsertRoot(new.copy()),

@@ -25,12 +25,13 @@ pub enum Matching {
     Given(GivenNumber),
 }
 
-/// The object of a new row.
+/// The object of a new row, and its class.
 #[derive(Clone, Copy)]
 struct NewObject<'a> {
     form: &'a RowForm,
     ids: ObjIds,
     mode: u32,
+    class: u32,
 }
 
 impl SessionTables {
@@ -44,7 +45,10 @@ impl SessionTables {
                     return Matching::Full;
                 }
                 self.change(&row, row.with_count(row.count + 1));
-                Matching::Given(GivenNumber { number: row.number })
+                Matching::Given(GivenNumber {
+                    number: row.number,
+                    class: row.class,
+                })
             }
         }
     }
@@ -62,7 +66,7 @@ impl SessionTables {
         requires object { NoRow (tables_of self.old) (HasIds new.now.ids) }
         ensures { Adds (tables_of self.old) (EventReply.Inserted number)
             (agreed negotiated (with_row (tables_of self.old)
-            (new_row (tables_of self.old) number new.now.form.now new.now.ids new.now.mode count)))
+            (new_row (tables_of self.old) number new.now.form.now new.now.ids new.now.mode new.now.class count)))
             result (tables_of self.new) }
     {
         let serial = self.next_row;
@@ -75,6 +79,7 @@ impl SessionTables {
             form: new.form.copy(),
             ids: new.ids,
             mode: new.mode,
+            class: new.class,
             count,
             pins: 0,
             live: true,
@@ -118,6 +123,7 @@ impl SessionTables {
                     form: &new.form,
                     ids: new.ids,
                     mode: new.mode,
+                    class: new.class,
                 };
                 self.add(new.number, 1, &object, None)
             }
@@ -138,6 +144,7 @@ impl SessionTables {
             form: &new.form,
             ids: new.ids,
             mode: new.mode,
+            class: 0,
         };
         self.add(1, 2, &object, new.negotiated)
     }

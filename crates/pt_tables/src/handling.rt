@@ -76,6 +76,7 @@ impl SessionTables {
             handle: new.handle,
             number: new.number,
             fd: new.fd,
+            class: new.class,
             pins: 0,
             live: true,
         };

@@ -1,6 +1,7 @@
 //! The session's tables as they are kept, and the events that change them one at a time.
 #![tactic(auto)]
 
+mod classes;
 mod clearing;
 mod event;
 mod events;
@@ -14,6 +15,7 @@ mod store;
 mod tables;
 mod taking;
 
+pub use classes::{ByClass, one_limit};
 pub use event::{Claim, Event, ForgetPairs, KeptClaim, KeptEvent, NewHandle, NewRoot, NewRow};
 pub use form::{Negotiated, RowForm};
 pub use reply::{EventRefusal, EventReply, GivenNumber, Resolved};

@@ -20,19 +20,22 @@ pub enum EventRefusal {
     Memory,
 }
 
-/// What resolving a number tells: its row, which is pinned now, how its object is kept, and its ids and mode.
+/// What resolving a number tells: its row, which is pinned now, how its object is kept, its ids and mode,
+/// and its class.
 #[derive(Drop)]
 pub struct Resolved {
     pub row: u64,
     pub form: RowForm,
     pub ids: ObjIds,
     pub mode: u32,
+    pub class: u32,
 }
 
-/// A number that was given once more.
+/// A number that was given once more, and its class.
 #[derive(Clone, Copy)]
 pub struct GivenNumber {
     pub number: u64,
+    pub class: u32,
 }
 
 impl Resolved {
@@ -45,6 +48,7 @@ impl Resolved {
             form: self.form.copy(),
             ids: self.ids,
             mode: self.mode,
+            class: self.class,
         }
     }
 }

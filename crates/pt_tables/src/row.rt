@@ -6,7 +6,8 @@ use crate::form::RowForm;
 use pt_host::{Fd, ObjIds};
 use pt_rows::Pinned;
 
-/// A number's row. A live row has a count; one that is not live stays until its last pin is given back.
+/// A number's row, which takes its slot of its class. A live row has a count; one that is not live stays until its
+/// last pin is given back.
 #[derive(Drop)]
 pub struct Row {
     pub serial: u64,
@@ -14,6 +15,7 @@ pub struct Row {
     pub form: RowForm,
     pub ids: ObjIds,
     pub mode: u32,
+    pub class: u32,
     pub count: u64,
     pub pins: u64,
     pub live: bool,
@@ -27,15 +29,17 @@ pub struct HandleRow {
     pub handle: u64,
     pub number: u64,
     pub fd: Fd,
+    pub class: u32,
     pub pins: u64,
     pub live: bool,
 }
 
-/// A descriptor that is to be closed, and whether a slot goes back with it.
+/// A descriptor that is to be closed, and whether a slot of its class goes back with it.
 #[derive(Clone, Copy)]
 pub struct Closing {
     pub fd: Fd,
     pub slot: bool,
+    pub class: u32,
 }
 
 impl Row {
@@ -52,7 +56,11 @@ impl Row {
         ensures { result ≡ closing_of self.now }
     {
         match self.form {
-            RowForm::File(fd) => Closing { fd, slot: true },
+            RowForm::File(fd) => Closing {
+                fd,
+                slot: true,
+                class: self.class,
+            },
         }
     }
 }
@@ -65,6 +73,7 @@ impl HandleRow {
         Closing {
             fd: self.fd,
             slot: true,
+            class: self.class,
         }
     }
 }
@@ -79,6 +88,7 @@ impl Pinned for Row {
             form: self.form.copy(),
             ids: self.ids,
             mode: self.mode,
+            class: self.class,
             count: self.count,
             pins: self.pins,
             live: self.live,
@@ -91,6 +101,10 @@ impl Pinned for Row {
 
     fn key(&self) -> u64 {
         self.number
+    }
+
+    fn class(&self) -> u32 {
+        self.class
     }
 
     fn pins(&self) -> u64 {
@@ -132,6 +146,10 @@ impl Pinned for HandleRow {
 
     fn key(&self) -> u64 {
         self.handle
+    }
+
+    fn class(&self) -> u32 {
+        self.class
     }
 
     fn pins(&self) -> u64 {

@@ -5,7 +5,7 @@ ghost use Rattle.pt_tables.specs.Tables.{closing_of, closing_of_handle, HasNumbe
 ghost use Rattle.pt_tables.specs.Rows.{number_rows, handle_rows};
 ghost use Rattle.pt_rows.specs.Rows.{IsAmong, NoneOf, IsPinned, IsLeast};
 ghost use Rattle.pt_rows.specs.Same.{IsSame};
-ghost use Rattle.pt_tables.specs.Pending.{row_slots, closing_slots};
+ghost use Rattle.pt_tables.specs.Pending.{row_slots, handle_slots, closing_slots};
 ghost use Rattle.pt_tables.specs.LiveAfter.{IsLiveAfter, IsHandleAfter};
 
 use crate::objects::{Objects, enter_object, leave_object, object_key};
@@ -54,12 +54,15 @@ fn reserve(closing: &mut VecDeque<Closing>, rows: usize, handles: usize) -> Resu
     closing.reserve(rows + handles + 1)
 }
 
-/// How many slots go back with what is to be closed.
-fn slots_of(closing: &VecDeque<Closing>) -> usize
-    ensures same { result ≡ closing_slots closing.now.items }
+/// How many slots of this class go back with what is to be closed.
+fn slots_of(closing: &VecDeque<Closing>, class: u32) -> usize
+    ensures same { result ≡ closing_slots class closing.now.items }
     ensures bound { result ≤ length closing.now.items }
 {
-    closing.iter().filter(|entry| entry.slot).count()
+    closing
+        .iter()
+        .filter(|entry| entry.slot && entry.class == class)
+        .count()
 }
 
 impl RowStore {
@@ -192,11 +195,12 @@ impl RowStore {
         self.numbers.len() + self.handles.len() + self.closing.len()
     }
 
-    /// How many slots the rows and the closing list hold.
-    pub fn slots(&self) -> usize
-        ensures { result ≡ row_slots self.now.rows + length self.now.handles + closing_slots self.now.closing }
+    /// How many slots of this class the rows and the closing list hold.
+    pub fn slots(&self, class: u32) -> usize
+        ensures { result ≡ row_slots class self.now.rows + handle_slots class self.now.handles
+            + closing_slots class self.now.closing }
     {
-        self.numbers.len() + self.handles.len() + slots_of(&self.closing)
+        self.numbers.of_class(class) + self.handles.of_class(class) + slots_of(&self.closing, class)
     }
 }
 

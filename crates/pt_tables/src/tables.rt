@@ -1,12 +1,13 @@
-ghost use Rattle.std.specs.Prelude.{◌≡◌, true, ◌↔◌, IsTrue};
+ghost use Rattle.std.specs.Prelude.{◌≡◌, true, ◌↔◌, IsTrue, length};
 ghost use Rattle.pt_tables.specs.Tables.{empty_tables};
 ghost use Rattle.pt_rows.specs.Same.{IsSame};
 ghost use Rattle.pt_tables.specs.Rows.{number_rows, ChangesRow, EndsRow, Dies};
 ghost use Rattle.pt_rows.specs.Rows.{IsAmong};
-ghost use Rattle.pt_tables.specs.Happens.{Happens, agreed};
-ghost use Rattle.pt_tables.specs.Pending.{AddsUp};
+ghost use Rattle.pt_tables.specs.Happens.{Happens, agreed, slots_left};
+ghost use Rattle.pt_tables.specs.Pending.{AddsUp, AddsUpIn, AddsUpBelow};
 ghost use Rattle.pt_tables.specs.Kept.{tables_of};
 
+use crate::classes::{ByClass, copy_classes, of_class, put_class};
 use crate::event::KeptEvent;
 use crate::form::Negotiated;
 use crate::reply::{EventRefusal, EventReply};
@@ -21,23 +22,24 @@ pub struct SessionTables {
     pub next_number: u64,
     pub next_handle: u64,
     pub next_row: u64,
-    pub slots: u64,
-    pub limit: u64,
+    /// How many are left of each class.
+    pub slots: ByClass,
+    pub limits: ByClass,
     pub negotiated: Negotiated,
     pub store: RowStore,
 }
 
 impl SessionTables {
-    pub fn new(alloc: Global, limit: u64) -> SessionTables
-        ensures { tables_of result ≡ empty_tables limit }
+    pub fn new(alloc: Global, limits: ByClass) -> SessionTables
+        ensures { tables_of result ≡ empty_tables limits.items }
     {
         SessionTables {
             era: 0,
             next_number: 2,
             next_handle: 0,
             next_row: 0,
-            slots: limit,
-            limit,
+            slots: copy_classes(&limits),
+            limits,
             negotiated: Negotiated::NONE,
             store: RowStore::new(alloc),
         }
@@ -85,23 +87,39 @@ impl SessionTables {
         }
     }
 
-    pub fn take_fd(&mut self) -> EventReply
-        ensures { Happens (tables_of self.old) KeptEvent.TakeFd result (tables_of self.new) }
+    /// How many classes have a limit.
+    pub fn classes(&self) -> u32
+        ensures { result ≡ length (tables_of self.now).limits }
     {
-        if self.slots == 0 {
+        self.limits.len() as u32
+    }
+
+    /// How many slots of this class are left.
+    pub fn slots_left(&self, class: u32) -> u64
+        ensures { result ≡ slots_left (tables_of self.now) class }
+    {
+        of_class(&self.slots, class)
+    }
+
+    pub fn take_fd(&mut self, class: u32) -> EventReply
+        ensures { Happens (tables_of self.old) (KeptEvent.TakeFd class) result (tables_of self.new) }
+    {
+        let left = self.slots_left(class);
+        if left == 0 {
             return EventReply::Refused(EventRefusal::NoSlot);
         }
-        self.slots -= 1;
+        put_class(&mut self.slots, class, left - 1);
         EventReply::Taken
     }
 
-    pub fn give_fd(&mut self) -> EventReply
-        ensures { Happens (tables_of self.old) KeptEvent.GiveFd result (tables_of self.new) }
+    pub fn give_fd(&mut self, class: u32) -> EventReply
+        ensures { Happens (tables_of self.old) (KeptEvent.GiveFd class) result (tables_of self.new) }
     {
-        if self.slots >= self.limit {
+        let left = self.slots_left(class);
+        if left >= of_class(&self.limits, class) {
             return EventReply::Refused(EventRefusal::NotLive);
         }
-        self.slots += 1;
+        put_class(&mut self.slots, class, left + 1);
         EventReply::Given
     }
 
@@ -125,10 +143,29 @@ impl SessionTables {
         }
     }
 
-    /// Whether the slots that are left and those that are held are all that there are.
+    /// Whether the slots of a class that are left and those that are held are all that there are.
+    fn adds_up_in(&self, class: u32) -> bool
+        ensures { IsTrue result ↔ AddsUpIn (tables_of self.now) class }
+    {
+        let left = of_class(&self.slots, class);
+        let limit = of_class(&self.limits, class);
+        left <= limit && self.store.slots(class) as u64 == limit - left
+    }
+
+    /// Whether that is so of each class that is less.
+    fn adds_up_below(&self, classes: u32) -> bool
+        ensures { IsTrue result ↔ AddsUpBelow (tables_of self.now) classes }
+    {
+        if classes == 0 {
+            return true;
+        }
+        self.adds_up_in(classes - 1) && self.adds_up_below(classes - 1)
+    }
+
+    /// Whether it is so of each class.
     pub fn adds_up(&self) -> bool
         ensures { IsTrue result ↔ AddsUp (tables_of self.now) }
     {
-        self.slots <= self.limit && self.store.slots() as u64 == self.limit - self.slots
+        self.adds_up_below(self.classes())
     }
 }

@@ -27,6 +27,7 @@ impl SessionTables {
                     form: row.form,
                     ids: row.ids,
                     mode: row.mode,
+                    class: row.class,
                 })
             }
         }

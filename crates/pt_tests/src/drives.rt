@@ -1,4 +1,4 @@
-ghost use Rattle.std.specs.Prelude.{◌≡◌, ℕ, IfOk, IfSome, length};
+ghost use Rattle.std.specs.Prelude.{◌≡◌, ℕ, List, IfOk, IfSome, length};
 ghost use Rattle.pt_tables.specs.Tables.{empty_tables};
 ghost use Rattle.pt_fs.specs.Jobs.{StartAll, job_start};
 ghost use Rattle.pt_host.specs.Seat.{IsStartingSeat};
@@ -10,14 +10,14 @@ use pt_host::{Bytes, Edit, Errno, Fd};
 use pt_iface::{Answer, Context, Refusal, Request};
 use pt_job::AnyJob;
 use pt_req::Config;
-use pt_session::{Event, EventReply, Session};
+use pt_session::{Event, EventReply, Session, one_limit};
 use std::alloc::{AllocError, Global};
 use std::mem::forget;
 use std::process::Abort;
 use std::test::Fail;
 
 pub fn made(alloc: Global, refuses: bool) -> Result<PassthroughFs, Refusal>
-    ensures { IfOk result (λ fs. (limit : ℕ) × (fs.tables ≡ empty_tables limit)) }
+    ensures { IfOk result (λ fs. (limits : List ℕ) × (fs.tables ≡ empty_tables limits)) }
 {
     let cfg = Config::new(alloc)?;
     PassthroughFs::new(alloc, cfg, &mut a_host(refuses), &mut a_seat())
@@ -26,18 +26,19 @@ pub fn made(alloc: Global, refuses: bool) -> Result<PassthroughFs, Refusal>
 fn keeps_its_root_and_its_limit(fs: &PassthroughFs) -> bool {
     fs.keep_fds() == [Fd(4)]
         && fs.plan().config.guest_fd_limit == u64::MAX
-        && fs.session().slots_left() == u64::MAX
+        && fs.session().slots_left(0) == u64::MAX
 }
 
 /// Whether the file system hands its session out, and takes another.
 fn takes_a_session(alloc: Global, fs: &mut PassthroughFs) -> bool {
-    let old = fs.replace_session(Session::new(alloc, 5));
-    old.slots_left() == u64::MAX && fs.session().slots_left() == 5
+    let old = fs.replace_session(Session::new(alloc, one_limit(5)));
+    old.slots_left(0) == u64::MAX && fs.session().slots_left(0) == 5
 }
 
 /// Whether an event is one of the tables that it lends.
 fn takes_one_of_five_slots(fs: &mut PassthroughFs) -> bool {
-    matches!(fs.event(&Event::TakeFd), EventReply::Taken) && fs.session().slots_left() == 4
+    matches!(fs.event(&Event::TakeFd { class: 0 }), EventReply::Taken)
+        && fs.session().slots_left(0) == 4
 }
 
 /// Whether a request begins. Its job is cut, and ends so: to let a job go is to let each kind of job go, which takes
@@ -185,7 +186,7 @@ fn runs_as_wanted(
     schedule: &[u32],
     owners: &[u32],
 ) -> Option<bool>
-    requires { (limit : ℕ) × (fs.tables ≡ empty_tables limit) }
+    requires { (limits : List ℕ) × (fs.tables ≡ empty_tables limits) }
 {
     let jobs = four_jobs(alloc)?;
     let driven = drive(alloc, fs, &mut a_host(false), jobs, schedule);

@@ -6,7 +6,7 @@ use pt_iface::{Context, Extensions, Request};
 use pt_job::{AnyJob, JobState, SessionAccess, serve};
 use pt_req::Plan;
 use pt_script::{Script, parse};
-use pt_session::Session;
+use pt_session::{Session, one_limit};
 use std::alloc::Global;
 use std::mem::forget;
 use std::process::Abort;
@@ -159,7 +159,7 @@ fn unlinks<R: Abort>(rt: &R, alloc: Global) -> Option<bool> {
 /// The root is opened by one job, which is taken whole, and then named by one that takes the name `a` away.
 fn is_served<R: Abort>(rt: &R, alloc: Global) -> Option<bool> {
     let plan = a_plan(alloc)?;
-    let mut session = Session::new(alloc, 5);
+    let mut session = Session::new(alloc, one_limit(5));
     let mut host = a_host(false);
     let mut seat = a_seat();
     assert!(rt; session.spare().is_none(), "its room is bounded");
@@ -198,7 +198,7 @@ fn is_lost(alloc: Global) -> Option<bool> {
         return None;
     };
     forget(jobs);
-    let mut session = Session::new(alloc, 5);
+    let mut session = Session::new(alloc, one_limit(5));
     let mut seat = a_seat();
     let root = AnyJob::begin(WHO, Request::Root);
     forget(serve(&plan, &mut session, &mut host, &mut seat, root));

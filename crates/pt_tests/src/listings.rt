@@ -2,7 +2,6 @@ use crate::plays::Step::Acts;
 use crate::plays::{Played, Step, Told, ends_so};
 use pt_iface::Request;
 use std::alloc::Global;
-use std::process::Abort;
 
 fn list(alloc: Global) -> Option<Played> {
     let request = Request::ReadDir {
@@ -19,13 +18,9 @@ const PINS: &[Step] = &[
     Acts(b" PinHandle 0 1", Told::Pinned(3, 6)),
 ];
 
-const UNPINS: &[Step] = &[Acts(b" UnpinHandle 3", Told::Done(0))];
+const LISTS: &[u8] = b" ListAt 6 + 0 1000";
 
-/// Whether what a host lists is answered so, behind the end of what was held.
-fn is_answered<R: Abort>(rt: &R, alloc: Global, bytes: &'static [u8], answer: &[u8]) -> bool {
-    let lists = [Acts(b" ListAt 6 + 0 1000", Told::Bytes(bytes))];
-    ends_so(rt, alloc, list(alloc), &[PINS, &lists, UNPINS], answer)
-}
+const UNPINS: &[Step] = &[Acts(b" UnpinHandle 3", Told::Done(0))];
 
 /// None, one, and two; one with the greatest numbers and no name. A record is an inode number, where the directory is
 /// read on, how long the record is, a kind, and the name, which a NUL ends, filled up with NULs.
@@ -49,7 +44,8 @@ const WHOLE: &[(&[u8], &[u8])] = &[
 #[test]
 fn whole_records_are_entries(rt: HostRuntime) {
     for (bytes, answer) in WHOLE {
-        assert!(rt; is_answered(&rt, rt.alloc(), bytes, answer));
+        let parts = [PINS, &[Acts(LISTS, Told::Bytes(*bytes))], UNPINS];
+        assert!(rt; ends_so(&rt, rt.alloc(), list(rt.alloc()), &parts, answer));
     }
 }
 
@@ -65,7 +61,8 @@ const WITHOUT_NUL: &[&[u8]] = &[
 #[test]
 fn a_name_without_a_nul_is_no_entry(rt: HostRuntime) {
     for bytes in WITHOUT_NUL {
-        assert!(rt; is_answered(&rt, rt.alloc(), bytes, b" Refused 5"));
+        let parts = [PINS, &[Acts(LISTS, Told::Bytes(*bytes))], UNPINS];
+        assert!(rt; ends_so(&rt, rt.alloc(), list(rt.alloc()), &parts, b" Refused 5"));
     }
 }
 
@@ -84,7 +81,8 @@ const CUT_OFF: &[&[u8]] = &[
 #[test]
 fn bytes_that_are_cut_off_are_no_entries(rt: HostRuntime) {
     for bytes in CUT_OFF {
-        assert!(rt; is_answered(&rt, rt.alloc(), bytes, b" Refused 5"));
+        let parts = [PINS, &[Acts(LISTS, Told::Bytes(*bytes))], UNPINS];
+        assert!(rt; ends_so(&rt, rt.alloc(), list(rt.alloc()), &parts, b" Refused 5"));
     }
 }
 
@@ -100,6 +98,7 @@ const ODD: &[&[u8]] = &[
 #[test]
 fn records_of_another_form_are_no_entries(rt: HostRuntime) {
     for bytes in ODD {
-        assert!(rt; is_answered(&rt, rt.alloc(), bytes, b" Refused 5"));
+        let parts = [PINS, &[Acts(LISTS, Told::Bytes(*bytes))], UNPINS];
+        assert!(rt; ends_so(&rt, rt.alloc(), list(rt.alloc()), &parts, b" Refused 5"));
     }
 }

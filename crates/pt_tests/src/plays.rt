@@ -77,7 +77,10 @@ impl Told {
                 fd: Fd(number),
             }),
             Told::Absent => Told::by_tables(EventReply::Absent),
-            Told::Claimed(number) => Told::by_tables(EventReply::Claimed(GivenNumber { number })),
+            Told::Claimed(number) => Told::by_tables(EventReply::Claimed(GivenNumber {
+                number,
+                class: 0,
+            })),
             Told::Taken => Told::by_tables(EventReply::Taken),
             Told::Given => Told::by_tables(EventReply::Given),
             Told::Drawn(number) => Told::by_tables(EventReply::Drawn { number }),
@@ -104,6 +107,7 @@ fn resolved() -> EventReply {
             mnt_id: 1,
         },
         mode: 16877,
+        class: 0,
     })
 }
 

@@ -1,4 +1,4 @@
-ghost use Rattle.std.specs.Prelude.{◌≡◌, ◌≤◌, ℕ, IfOk, length};
+ghost use Rattle.std.specs.Prelude.{◌≡◌, ◌≤◌, ℕ, List, IfOk, length};
 ghost use Rattle.pt_tables.specs.Tables.{empty_tables};
 
 use crate::one_directory::a_seat;
@@ -22,7 +22,7 @@ const LOST: &[u8] = b"mount 1 1 / 1\nfile /a 0o644 0 0 hi\nfault 10 5\njob 0 0 i
 
 /// A file system over this host.
 fn made(alloc: Global, host: &mut TreeHost) -> Result<PassthroughFs, Refusal>
-    ensures { IfOk result (λ fs. (limit : ℕ) × (fs.tables ≡ empty_tables limit)) }
+    ensures { IfOk result (λ fs. (limits : List ℕ) × (fs.tables ≡ empty_tables limits)) }
 {
     let cfg = Config::new(alloc)?;
     PassthroughFs::new(alloc, cfg, host, &mut a_seat())

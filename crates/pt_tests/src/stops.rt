@@ -1,6 +1,6 @@
 //! A run that stops since its record is full.
 
-ghost use Rattle.std.specs.Prelude.{◌≡◌, ℕ};
+ghost use Rattle.std.specs.Prelude.{◌≡◌, ℕ, List};
 ghost use Rattle.pt_tables.specs.Tables.{empty_tables};
 
 use crate::drives::{belong_to, four_jobs, made};
@@ -59,7 +59,7 @@ fn stops_as_wanted(
     owners: &[u32],
     has_file: bool,
 ) -> Option<bool>
-    requires { (limit : ℕ) × (fs.tables ≡ empty_tables limit) }
+    requires { (limits : List ℕ) × (fs.tables ≡ empty_tables limits) }
 {
     let jobs = four_jobs(alloc)?;
     let mut host = a_host(false);

@@ -6,8 +6,10 @@
 //! earlier seat makes them), `who` (prints that seat), `edit` lines as a script has them, `list` (prints the tree)
 //! and calls, as a report prints them. A part `%*N*B` of a line stands for N times the byte that B writes.
 //!
-//! Behind a line `=== events` each case has a session: a line `session SLOTS` begins its tables. Then come events, as
-//! a report prints them; `for FROM TO EVENT` makes the event with each number from FROM to below TO in the place of
+//! Behind a line `=== events` each case has a session: a line `session LIMIT..` begins its tables, with a limit of
+//! slots
+//! for each class. Then come events, as a report prints them; `for FROM TO EVENT` makes the event with each number
+//! from FROM to below TO in the place of
 //! its `@`, and prints the first reply, the last one and how many were refusals; `tables` prints the tables, which
 //! are printed at the end of each case too.
 //!

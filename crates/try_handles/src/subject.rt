@@ -154,12 +154,10 @@ fn take_lines(
     lines: &[&[u8]],
     out: &mut Vec<u8>,
 ) -> Result<Ending, AllocError> {
-    let mut behind = lines;
     let mut number: u64 = 0;
     let mut passed: usize = 0;
-    for text in lines {
+    for (place, text) in lines.iter().enumerate() {
         number = number.saturating_add(1);
-        behind = behind.get(1..).unwrap_or(&[]);
         if passed > 0 {
             passed -= 1;
             continue;
@@ -167,7 +165,7 @@ fn take_lines(
         let line = Line {
             alloc: subject.alloc,
             text: *text,
-            behind,
+            behind: lines.get(place.saturating_add(1)..).unwrap_or(lines),
             number,
         };
         match subject.take(&line, out) {

@@ -96,8 +96,8 @@ is_over (mode.Leave last) holds = none_in holds
 abbrev pub is_all_over : Taken → ℕ → Mode → List Hold → Bool
 is_all_over taken.Nothing zero at holds = is_over at holds
 is_all_over taken.Nothing (suc count) at holds = false
-is_all_over taken.Slot count at holds = false
-is_all_over (taken.Fd fd slot) count at holds = false
+is_all_over (taken.Slot class) count at holds = false
+is_all_over (taken.Fd fd slot class) count at holds = false
 
 -- the hold that is given back next is a scope
 abbrev pub is_giving_scope : Mode → List Hold → Bool
@@ -107,8 +107,8 @@ is_giving_scope at holds = tops (behind (passes_at at) holds)
 abbrev pub is_restoring_now : Taken → ℕ → Mode → List Hold → Bool
 is_restoring_now taken.Nothing zero at holds = is_giving_scope at holds
 is_restoring_now taken.Nothing (suc count) at holds = false
-is_restoring_now taken.Slot count at holds = false
-is_restoring_now (taken.Fd fd slot) count at holds = false
+is_restoring_now (taken.Slot class) count at holds = false
+is_restoring_now (taken.Fd fd slot class) count at holds = false
 
 -- what was lost is told at the end, unless the job was cut
 abbrev pub NoneUnless : Bool → Option Errno → Type 0
@@ -152,8 +152,8 @@ Stays (mode.Leave last) acts told = Unit {0}
 
 abbrev pub taken_steps : Taken → ℕ
 taken_steps taken.Nothing = 0
-taken_steps taken.Slot = 1
-taken_steps (taken.Fd fd slot) = 2
+taken_steps (taken.Slot class) = 1
+taken_steps (taken.Fd fd slot class) = 2
 
 -- a bound on the steps that are left, but for closings that are yet to be told
 abbrev pub bound_left : Taken → ℕ → ℕ → ℕ

@@ -171,7 +171,7 @@ impl<B: Body> Framed<B> {
     {
         match self.taken {
             Taken::Fd { fd, .. } => return Want::Step(Act::Host(HostOp::Close { fd })),
-            Taken::Slot => return Want::Step(Act::Event(Event::GiveFd)),
+            Taken::Slot { class } => return Want::Step(Act::Event(Event::GiveFd { class })),
             Taken::Nothing => {}
         }
         if self.closings > 0 {
@@ -212,11 +212,15 @@ impl<B: Body> Framed<B> {
             ≤ inserts_left self.old.at most_rows }
     {
         match self.taken {
-            Taken::Fd { slot, .. } => {
-                self.taken = if slot { Taken::Slot } else { Taken::Nothing };
+            Taken::Fd { slot, class, .. } => {
+                self.taken = if slot {
+                    Taken::Slot { class }
+                } else {
+                    Taken::Nothing
+                };
                 return;
             }
-            Taken::Slot => {
+            Taken::Slot { .. } => {
                 self.taken = Taken::Nothing;
                 return;
             }

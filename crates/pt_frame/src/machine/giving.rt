@@ -21,7 +21,7 @@ pub fn giving<'a>(hold: Hold, seat: &'a HostSeat) -> Act<'a>
         Hold::Pin { row, .. } => Act::Event(Event::Unpin { row }),
         Hold::HandlePin { row, .. } => Act::Event(Event::UnpinHandle { row }),
         Hold::Fd(fd) => Act::Host(HostOp::Close { fd }),
-        Hold::Slot => Act::Event(Event::GiveFd),
+        Hold::Slot { class } => Act::Event(Event::GiveFd { class }),
         Hold::Count { era, number } => Act::Event(Event::GiveBack { era, number }),
         Hold::Groups => Act::Host(HostOp::SetGroups {
             list: seat.groups.as_slice(),
@@ -38,8 +38,11 @@ pub fn is_scope(hold: Hold) -> bool
     ensures { result ≡ is_scope hold }
 {
     match hold {
-        Hold::Pin { .. } | Hold::HandlePin { .. } | Hold::Fd(_) | Hold::Slot | Hold::Count { .. } =>
-            false,
+        Hold::Pin { .. }
+        | Hold::HandlePin { .. }
+        | Hold::Fd(_)
+        | Hold::Slot { .. }
+        | Hold::Count { .. } => false,
         Hold::Groups | Hold::EffectiveGid | Hold::EffectiveUid | Hold::Dropped(_) | Hold::Umask =>
             true,
     }
@@ -150,6 +153,7 @@ pub fn taken_in(reply: &ActReply) -> Taken
         ActReply::Event(EventReply::Closing(first)) => Taken::Fd {
             fd: first.fd,
             slot: first.slot,
+            class: first.class,
         },
         _ => Taken::Nothing,
     }

@@ -77,22 +77,22 @@ fn close(fd: Fd, holds: &mut Holds)
     }
 }
 
-/// A slot lies under the newest descriptor.
-fn slot(holds: &mut Holds)
+/// A slot of this class lies under the newest descriptor.
+fn slot(class: u32, holds: &mut Holds)
     requires { length holds.old < most_holds }
-    ensures slotted { holds.new ≡ slotted holds.old }
+    ensures slotted { holds.new ≡ slotted class holds.old }
     ensures length { length holds.new ≡ length holds.old + 1 }
 {
     match holds.pop() {
         Some(top) if is_any_fd(top) => {
-            holds.push(Hold::Slot);
+            holds.push(Hold::Slot { class });
             holds.push(top);
         }
         Some(top) => {
-            slot(holds);
+            slot(class, holds);
             holds.push(top);
         }
-        None => holds.push(Hold::Slot),
+        None => holds.push(Hold::Slot { class }),
     }
 }
 
@@ -102,7 +102,7 @@ fn unslot(holds: &mut Holds)
     ensures length { length holds.new ≤ length holds.old }
 {
     match holds.pop() {
-        Some(Hold::Slot) => {}
+        Some(Hold::Slot { .. }) => {}
         Some(top) => holds.push(top),
         None => {}
     }
@@ -179,7 +179,7 @@ fn hold_changed(event: &Event<'_>, reply: &EventReply, holds: &mut Holds)
                 holds,
             );
         }
-        (Event::TakeFd, EventReply::Taken) => slot(holds),
+        (Event::TakeFd { class }, EventReply::Taken) => slot(*class, holds),
         (Event::Claim(claim), EventReply::Claimed(given)) => {
             lay(
                 Hold::Count {

@@ -1,5 +1,5 @@
 use crate::trouble::Trouble;
-use pt_session::{EventReply, KeptEvent, Session};
+use pt_session::{ByClass, EventReply, KeptEvent, Session};
 use pt_show::{Text, read_text};
 use pt_text::push_text;
 use std::alloc::{AllocError, Global};
@@ -58,11 +58,11 @@ impl Case {
     }
 
     /// Begins the session, which is bad where one was begun.
-    pub fn begin(&mut self, slots: u64) -> Result<(), Trouble> {
+    pub fn begin(&mut self, limits: ByClass) -> Result<(), Trouble> {
         if self.session.is_some() {
             return Err(Trouble::Bad);
         }
-        self.session = Some(Session::new(self.alloc, slots));
+        self.session = Some(Session::new(self.alloc, limits));
         Ok(())
     }
 
@@ -84,7 +84,10 @@ impl Case {
         };
         push_lives(out, session)?;
         push_handles(out, session)?;
-        push_count(out, b"slots", session.slots_left())?;
+        push_count(out, b"slots", session.slots_left(0))?;
+        for class in 1..session.classes() {
+            push_pair(out, b"class", (u64::from(class), session.slots_left(class)))?;
+        }
         push_count(out, b"pending", session.pending())?;
         push_text(out, b"adds_up")?;
         session.adds_up().write(out)?;

@@ -1,6 +1,7 @@
 use crate::events::case::Case;
 use crate::events::many::answer_each;
 use crate::trouble::Trouble;
+use pt_session::{ByClass, one_limit};
 use pt_show::Text;
 use pt_text::{Parts, push_text};
 use pt_words::{end, next_number, next_word};
@@ -35,14 +36,28 @@ fn take_each(
     Ok(())
 }
 
+// The limits of a session's classes, which the words that are left are.
+fn limits_of(words: &mut Parts<'_>) -> Result<ByClass, Trouble> {
+    let mut limits = one_limit(next_number(words)?);
+    for _ in 1..65 {
+        if end(words).is_ok() {
+            break;
+        }
+        if limits.try_push(next_number(words)?).is_err() {
+            return Err(Trouble::Bad);
+        }
+    }
+    end(words)?;
+    Ok(limits)
+}
+
 /// What a line does to the case, and what it tells, which is put behind `out`.
 pub fn take(case: &mut Case, line: &[u8], out: &mut Vec<u8>) -> Result<(), Trouble> {
     let mut words = Parts::words(line);
     match next_word(&mut words)? {
         b"session" => {
-            let slots = next_number(&mut words)?;
-            end(&words)?;
-            case.begin(slots)?;
+            let limits = limits_of(&mut words)?;
+            case.begin(limits)?;
         }
         b"tables" => {
             end(&words)?;

@@ -17,8 +17,8 @@ use Rattle.pt_job.proofs.job.AnyJob.begin.Goals as goal
 -- a job in a mode that has not ended has not ended
 goes_on : (brings : Taken) (count : ℕ) (at : Mode) (holds : List Hold) → is_over at holds ≡ false →
     is_all_over brings count at holds ≡ false
-goes_on (taken.Fd fd slot) count at holds e = refl
-goes_on taken.Slot count at holds e = refl
+goes_on (taken.Fd fd slot class) count at holds e = refl
+goes_on (taken.Slot class) count at holds e = refl
 goes_on taken.Nothing (suc count) at holds e = refl
 goes_on taken.Nothing zero at holds e = e
 
