@@ -1,5 +1,9 @@
 -- Proof. Answers and states that the plain file system refuses.
-use Rattle.std.proofs.Common.{◌≡◌, ℕ, ◌+◌, ◌≤◌, Bool, List, [], Option, Some, None, inl, inr, refl, sym, ap, ◌∙◌, arith}
+use Rattle.std.proofs.Common.{◌≡◌, ℕ, ◌+◌, ◌≤◌, Bool, List, [], ◌∷◌, Option, Some, None, inl, inr, refl, sym, ap, subst}
+use Rattle.std.proofs.Common.{◌∙◌, arith, if◌then◌else◌}
+use Rattle.std.specs.Str.{bytes_eq}
+use Rattle.pt_host.specs.Names.{NameMoves, Renames}
+use Rattle.pt_host.specs.Tree.{Tree}
 use Rattle.pt_host.specs.Words.{set_at}
 use Rattle.pt_host.specs.declared.ids.Errno.{Errno}
 use Rattle.pt_tables.specs.Tables.{nothing_agreed}
@@ -77,6 +81,56 @@ module _ (plan : Plan) (agreed : Negotiated) where
   unfolding set_at
   refused_changes errno after k e =
       let a : 3 ≡ 2 = ap count_in (sym e ∙ ap (λ (x : PlainTree). x.numbers 1) k) in absurd (omega (arith, a))
+
+-- The root is object 0, by number 1, and holds one name, that of object 1.
+abbrev old : List ℕ
+old = 97 ∷ []
+
+abbrev new : List ℕ
+new = 98 ∷ []
+
+abbrev only_old : Tree
+only_old = record {
+  objects = [];
+  names = λ dir name. if bytes_eq name old then Some 1 else None;
+  opened = λ fd. None;
+}
+
+-- a name that was moved leads nowhere
+moved_away : (tree : Tree) → Renames only_old 0 old 0 new 0 tree → tree.names 0 old ≡ None
+unfolding set_at
+moved_away tree (inl (flags, m)) = go m.moves
+  where
+    go : NameMoves only_old 0 old 0 new m.object tree → tree.names 0 old ≡ None
+    go (inl (same, is)) = absurd (cc)
+    go (inr (other, is)) = ap (λ (t : Tree). t.names 0 old) is
+moved_away tree (inr (inl (flags, free, m))) = absurd (omega (arith, flags))
+moved_away tree (inr (inr (flags, m))) = absurd (omega (arith, flags))
+
+module _ (plan : Plan) (agreed : Negotiated) where
+  abbrev named : PlainTree
+  named = record {
+    tree = only_old;
+    numbers = set_at 1 (numbered_as 0 2) (λ number. None);
+    handles = λ handle. None;
+    numbers_below = 9;
+    handles_below = 4;
+    agreed = agreed;
+  }
+
+  -- a rename that leaves its old name
+  old_name_stays : (after : PlainTree) →
+      Serves plan (request.Rename 1 old 1 new 0) named answer.Done after → after.tree.names 0 old ≡ Some 1 → ⊥
+  unfolding set_at
+  old_name_stays after k there =
+      let from : 0 ≡ k.0 = ap object_in k.1.1 in
+      let to : 0 ≡ k.2.0 = ap object_in k.2.1.1 in
+      let moved : Renames only_old 0 old 0 new 0 k.2.2.0 =
+      subst (λ (d : ℕ). Renames only_old d old 0 new 0 k.2.2.0) (sym from)
+      (subst (λ (d : ℕ). Renames only_old k.0 old d new 0 k.2.2.0) (sym to) k.2.2.1) in
+      let gone : ◌≡◌ {A = Option ℕ} None (Some 1) =
+      sym (moved_away k.2.2.0 moved) ∙ sym (ap (λ (x : PlainTree). x.tree.names 0 old) k.2.2.2) ∙ there in
+      absurd (cc)
 
 -- a refused `create` leaves no handle
 no_handle : (state after : PlainTree) (parent : ℕ) (name : List ℕ) → LeavesMade state parent name after →
